@@ -1,0 +1,5 @@
+pub mod Canonical
+pub mod Cover
+pub mod Examples
+pub mod Joining
+pub mod Members

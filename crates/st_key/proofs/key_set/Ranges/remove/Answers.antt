@@ -1,0 +1,17 @@
+use Rattle.st_key.proofs.Canonical.{canonical-without_span}
+use Rattle.st_key.proofs.Members.{holds-without_span}
+use Rattle.st_key.proofs.key_set.Ranges.remove.Goals as goal
+
+pub invariant_of-self : goal.invariant_of-self
+invariant_of-self c =
+    rw c.in_ok-self-inside.ensures.value
+    (canonical-without_span c.args.self.now c.args.r.now (rw (← c.self.view_is) c.self.invariant) c.in_ok-self-inside.ensures.ordered)
+
+pub returns-clause-ok : goal.returns-clause-ok
+returns-clause-ok c =
+    rw c.in_ok-self-inside.ensures.value (λ key. holds-without_span c.args.self.now c.args.r.now key)
+
+pub returns-clause-canonical : goal.returns-clause-canonical
+returns-clause-canonical c =
+    rw c.in_ok-self-inside.ensures.value
+    (canonical-without_span c.args.self.now c.args.r.now (rw (← c.self.view_is) c.self.invariant) c.in_ok-self-inside.ensures.ordered)

@@ -1,0 +1,4 @@
+mod Kept
+mod Told
+mod Steps
+mod Undone

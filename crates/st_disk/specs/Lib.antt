@@ -1,0 +1,15 @@
+pub mod FileState
+pub mod History
+pub mod Images
+pub mod Moments
+pub mod Cause
+pub mod Schedule
+pub mod Spent
+pub mod Fuse
+pub mod FusedImages
+pub mod Left
+pub mod Recorded
+pub mod Recordings
+pub mod Told
+pub mod Entries
+pub mod MemoryView

@@ -13,6 +13,10 @@ pub record Span : Type 0 where
   pub begin : List ℕ
   pub end : List ℕ
 
+-- all keys of users: those below ff
+abbrev pub all_keys : Span
+all_keys = record { begin = []; end = 255 ∷ [] }
+
 -- begin ≤ key < end
 abbrev pub within : Span → List ℕ → Bool
 within span key = not (key_less key span.begin) && key_less key span.end

@@ -1,6 +1,6 @@
 //! Sets of keys.
 ghost use Rattle.std.specs.Bool.{OnFalse};
-ghost use Rattle.std.specs.Prelude.{◌≡◌, ℕ, false, ◌&&◌, ◌||◌, ◌++◌, drop, not, [], List, IsTrue, IfOk, OnOk, OnErr, ◌↔◌};
+ghost use Rattle.std.specs.Prelude.{◌≡◌, ℕ, false, ◌&&◌, ◌||◌, ◌++◌, drop, not, [], ◌∷◌, List, IsTrue, IfOk, OnOk, OnErr, ◌↔◌};
 ghost use Rattle.st_key.specs.Spans.{Span, key_less, within, holds, is_canonical, Covers, Misses};
 ghost use Rattle.std.specs.List.{list_any};
 ghost use Rattle.st_key.specs.Parts.{has_all, with_span, without_span};
@@ -35,6 +35,16 @@ impl Ranges {
         Ranges {
             pieces: Vec::new(alloc),
         }
+    }
+
+    /// The set of the keys of `r`.
+    pub fn of(alloc: Global, r: Range) -> Result<Ranges, AllocError>
+        ensures { IfOk result (λ set. set ≡ r ∷ []) }
+    {
+        let _ = r.begin();
+        let mut pieces = Vec::new(alloc);
+        pieces.push(r)?;
+        Ok(Ranges { pieces })
     }
 
     /// Puts the keys of `r` into the set. Takes time linear in the number of pieces.

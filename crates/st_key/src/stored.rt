@@ -86,6 +86,21 @@ impl Key {
         Key::bounded(alloc, bytes, MAX_KEY_LEN)
     }
 
+    /// A key of these bytes, of which there may be [`MAX_KEY_LEN`]. It copies none of them.
+    pub fn from_vec(bytes: Vec<u8>) -> Result<Key, KeyRefusal>
+        ensures ok { IfOk result (λ key. key ≡ bytes.items) }
+        ensures refused { RefusesLongKey MAX_KEY_LEN (length bytes.items) result }
+    {
+        let len = bytes.len();
+        if len > MAX_KEY_LEN {
+            return Err(KeyRefusal::KeyTooLong { len: len as u64 });
+        }
+        match Bytes::from_vec(bytes) {
+            Ok(bytes) => Ok(Key { bytes }),
+            Err(_) => Err(KeyRefusal::NoMemory),
+        }
+    }
+
     /// The end of a range, of which [`MAX_END_KEY_LEN`] bytes may be.
     pub fn end(alloc: Global, bytes: &[u8]) -> Result<Key, KeyRefusal>
         ensures ok { IfOk result (λ key. key ≡ bytes.now) }
@@ -143,6 +158,21 @@ impl Value {
         match Bytes::copy_from_slice(alloc, bytes) {
             Ok(bytes) => Ok(Value { bytes }),
             Err(AllocError) => Err(ValueRefusal::NoMemory),
+        }
+    }
+
+    /// A value of these bytes, of which there may be [`MAX_VALUE_LEN`]. It copies none of them.
+    pub fn from_vec(bytes: Vec<u8>) -> Result<Value, ValueRefusal>
+        ensures ok { IfOk result (λ value. value ≡ bytes.items) }
+        ensures refused { RefusesLongValue MAX_VALUE_LEN (length bytes.items) result }
+    {
+        let len = bytes.len();
+        if len > MAX_VALUE_LEN {
+            return Err(ValueRefusal::ValueTooLong { len: len as u64 });
+        }
+        match Bytes::from_vec(bytes) {
+            Ok(bytes) => Ok(Value { bytes }),
+            Err(_) => Err(ValueRefusal::NoMemory),
         }
     }
 

@@ -1,0 +1,11 @@
+mod Lists
+mod Batches
+mod Traces
+mod Polls
+mod Turns
+mod Runs
+mod Lives
+mod Plays
+mod Reports
+mod Rows
+mod Refusals

@@ -1,0 +1,10 @@
+pub use Rattle.st_fold.specs.Map
+pub use Rattle.st_fold.specs.Reading
+pub mod Pieces
+pub mod State
+pub mod Trace
+pub mod Reply
+pub mod Session
+pub mod Report
+pub mod Schedule
+pub mod Plain

@@ -1,0 +1,75 @@
+-- The last item of a list, and what more words than a line may have change.
+use Rattle.std.proofs.Common.{◌≡◌, ℕ, ◌-◌, ◌<◌, Bool, ◌||◌, List, [], ◌∷◌, length, map, set, get_or, take, Option, Some, None, slice_get, suc, refl, sym, ap, ◌∙◌, arith}
+use Rattle.std.specs.List.{list_any}
+use Rattle.std.specs.Option.{option_map_or}
+use Rattle.st_fold.specs.declared.batch.Batch.{Batch}
+use Rattle.st_script.specs.declared.line.Form.{Form}
+use Rattle.st_script.specs.declared.line.Form.TheVariants as form
+use Rattle.st_script.specs.declared.line.Place.{Place}
+use Rattle.st_script.specs.declared.line.Place.TheVariants as place
+use Rattle.st_script.specs.Draft.{Drafted, on_last, last_version}
+use Rattle.st_script.specs.Lines.{form_of}
+use Rattle.st_script.specs.Reading.{judge, judge_known}
+
+pub list_any-map : {A B : Type 0} (test : B → Bool) (f : A → B) (xs : List A) → list_any (λ x. test (f x)) xs ≡ list_any test (map f xs)
+list_any-map test f [] = refl
+list_any-map test f (x ∷ xs) = ap (λ v. test (f x) || v) (list_any-map test f xs)
+
+-- the last item of n, written over
+pub on_last-set : {A : Type 0} (f : A → A) (xs : List A) (n : ℕ) (last : A) → n ≡ length xs → 0 < n → last ≡ get_or xs (n - 1) last → on_last f xs ≡ set xs (n - 1) (f last)
+on_last-set f [] n last size some e = absurd (omega arith)
+on_last-set f (x ∷ []) n last size some e = let first : n - 1 ≡ 0 = omega arith in ap (λ y. f y ∷ []) (sym (rw first at e)) ∙ rw first refl
+on_last-set f (x ∷ y ∷ xs) n last size some e =
+    let m : ℕ = length (y ∷ xs) in
+    let at : n - 1 ≡ suc (m - 1) = omega arith in
+    let before = on_last-set f (y ∷ xs) m last refl (omega arith) (rw at at e) in
+    ap (λ zs. x ∷ zs) before ∙ rw at refl
+
+pub on_last-none : {A : Type 0} (f : A → A) (xs : List A) (n : ℕ) → n ≡ length xs → (0 < n → ⊥) → on_last f xs ≡ xs
+on_last-none f [] n size none = refl
+on_last-none f (x ∷ xs) n size none = absurd (none (omega arith))
+
+pub last_version-last : (log : List Batch) (last : Option Batch) → last ≡ slice_get log (length log - 1) → option_map_or (λ (batch : Batch). batch.version) last 0 ≡ last_version log
+last_version-last [] last e = rw e refl
+last_version-last (batch ∷ []) last e = rw e refl
+last_version-last (batch ∷ next ∷ log) last e =
+    let at : length (batch ∷ next ∷ log) - 1 ≡ suc (length (next ∷ log) - 1) = omega arith in
+    last_version-last (next ∷ log) last (rw at at e)
+
+beyond : (draft : Drafted) (known : Option Form) (a b c d e f : List ℕ) (more others : List (List ℕ)) → judge_known draft known a (b ∷ c ∷ d ∷ e ∷ f ∷ more) ≡ judge_known draft known a (b ∷ c ∷ d ∷ e ∷ f ∷ others)
+beyond draft None a b c d e f more others = refl
+beyond draft (Some form.Storage) a b c d e f more others = refl
+beyond draft (Some form.Own) a b c d e f more others = refl
+beyond draft (Some form.Log) a b c d e f more others = refl
+beyond draft (Some form.Batch) a b c d e f more others = refl
+beyond draft (Some form.Set) a b c d e f more others = refl
+beyond draft (Some form.Life) a b c d e f more others = refl
+beyond draft (Some form.Ask) a b c d e f more others = refl
+beyond draft (Some form.Do) a b c d e f more others = refl
+beyond draft (Some form.Close) a b c d e f more others = refl
+beyond draft (Some form.End) a b c d e f more others = refl
+
+judge_beyond : (draft : Drafted) (a b c d e f : List ℕ) (more others : List (List ℕ)) → judge draft (a ∷ b ∷ c ∷ d ∷ e ∷ f ∷ more) ≡ judge draft (a ∷ b ∷ c ∷ d ∷ e ∷ f ∷ others)
+judge_beyond draft a b c d e f more others = at draft.place
+  where
+    same : (here : Drafted) → judge_known here (form_of a) a (b ∷ c ∷ d ∷ e ∷ f ∷ more) ≡ judge_known here (form_of a) a (b ∷ c ∷ d ∷ e ∷ f ∷ others)
+    same here = beyond here (form_of a) a b c d e f more others
+
+    at : (p : Place) → judge (record draft { place = p }) (a ∷ b ∷ c ∷ d ∷ e ∷ f ∷ more) ≡ judge (record draft { place = p }) (a ∷ b ∷ c ∷ d ∷ e ∷ f ∷ others)
+    at place.Start = refl
+    at place.Head = same (record draft { place = place.Head })
+    at place.Log = same (record draft { place = place.Log })
+    at place.Batch = same (record draft { place = place.Batch })
+    at place.Life = same (record draft { place = place.Life })
+    at place.Closed = same (record draft { place = place.Closed })
+    at place.Ended = same (record draft { place = place.Ended })
+
+-- no more than the first ten words of a line matter
+pub judge-take : (draft : Drafted) (words : List (List ℕ)) → judge draft (take 10 words) ≡ judge draft words
+judge-take draft [] = refl
+judge-take draft (a ∷ []) = refl
+judge-take draft (a ∷ b ∷ []) = refl
+judge-take draft (a ∷ b ∷ c ∷ []) = refl
+judge-take draft (a ∷ b ∷ c ∷ d ∷ []) = refl
+judge-take draft (a ∷ b ∷ c ∷ d ∷ e ∷ []) = refl
+judge-take draft (a ∷ b ∷ c ∷ d ∷ e ∷ f ∷ more) = judge_beyond draft a b c d e f (take 4 more) more

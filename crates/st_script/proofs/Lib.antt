@@ -1,0 +1,5 @@
+pub mod Cutting
+pub mod Drafts
+pub mod Numbers
+pub mod Played
+mod Rows

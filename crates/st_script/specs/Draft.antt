@@ -1,0 +1,160 @@
+-- The script so far, and what may follow.
+use Rattle.std.specs.Prelude.{ℕ, ◌+◌, Bool, true, false, not, ◌&&◌, nat_lt, nat_le, List, [], ◌∷◌, ◌++◌, length, None, Result, Ok, Err, codes, if◌then◌else◌}
+use Rattle.std.specs.List.{list_any}
+use Rattle.st_key.specs.Spans.{Span}
+pub use Rattle.st_key.specs.Spans.{all_keys}
+use Rattle.st_fold.specs.declared.batch.Batch.{Batch}
+use Rattle.st_fold.specs.declared.batch.Mutation.{Mutation}
+use Rattle.st_fold.specs.declared.batch.Mutation.TheVariants.{Set}
+use Rattle.st_fold.specs.declared.plan.Do.{Do}
+use Rattle.st_fold.specs.declared.plan.Kind.{Kind}
+use Rattle.st_fold.specs.declared.plan.Kind.TheVariants as kind
+use Rattle.st_fold.specs.declared.plan.LifePlan.{LifePlan}
+use Rattle.st_fold.specs.declared.request.Request.{Request}
+use Rattle.st_script.specs.declared.line.Form.{Form}
+use Rattle.st_script.specs.declared.line.Form.TheVariants as form
+use Rattle.st_script.specs.declared.line.Line.{Line}
+use Rattle.st_script.specs.declared.line.Line.TheVariants as line
+use Rattle.st_script.specs.declared.line.Place.{Place}
+use Rattle.st_script.specs.declared.line.Place.TheVariants as place
+use Rattle.st_script.specs.Words.{is_empty}
+use Rattle.st_script.specs.Fields.{is_word}
+
+-- the lines so far: where they have led, and what they say
+pub record Drafted : Type 0 where
+  pub place : Place
+  pub own : List Span
+  pub log : List Batch
+  pub lives : List LifePlan
+  -- how many requests there are
+  pub requests : ℕ
+
+abbrev pub nothing_yet : Drafted
+nothing_yet = record { place = place.Start; own = []; log = []; lives = []; requests = 0 }
+
+-- ---- lines that this program doesn't play yet
+
+-- the first words of forms that it doesn't play
+abbrev pub later_forms : List (List ℕ)
+later_forms =
+    codes "window" ∷ codes "patience" ∷ codes "seed" ∷ codes "swap" ∷ codes "limit" ∷ codes "quota" ∷ codes "block"
+    ∷ codes "watches" ∷ codes "assign" ∷ codes "drop" ∷ codes "clear" ∷ codes "add" ∷ codes "and" ∷ codes "or"
+    ∷ codes "xor" ∷ codes "max" ∷ codes "min" ∷ codes "byte_min" ∷ codes "byte_max" ∷ codes "append"
+    ∷ codes "compare_and_clear" ∷ codes "last" ∷ codes "cut" ∷ codes "peerfail" ∷ codes "kill" ∷ []
+
+abbrev pub later_requests : List (List ℕ)
+later_requests = codes "range" ∷ codes "key" ∷ codes "watch" ∷ []
+
+abbrev pub later_acts : List (List ℕ)
+later_acts = codes "start" ∷ codes "block" ∷ codes "began" ∷ codes "durable" ∷ codes "flush" ∷ []
+
+abbrev pub is_among : List (List ℕ) → List ℕ → Bool
+is_among known word = list_any (is_word word) known
+
+-- the words `- ff`, in hex of either case: all keys
+abbrev pub are_all_keys : List (List ℕ) → Bool
+are_all_keys (begin ∷ end ∷ []) =
+    is_word begin (codes "-") && is_among (codes "ff" ∷ codes "fF" ∷ codes "Ff" ∷ codes "FF" ∷ []) end
+are_all_keys words = false
+
+abbrev pub is_among_first : List (List ℕ) → List (List ℕ) → Bool
+is_among_first known [] = false
+is_among_first known (word ∷ words) = is_among known word
+
+abbrev pub is_among_second : List (List ℕ) → List (List ℕ) → Bool
+is_among_second known [] = false
+is_among_second known (word ∷ words) = is_among_first known words
+
+-- The words after the first make a line that isn't played yet: of `own` all but one `- ff`, a `log` without it, a
+-- second life, and requests and acts that come later
+abbrev pub is_later_line : Drafted → Form → List (List ℕ) → Bool
+is_later_line draft form.Storage words = false
+is_later_line draft form.Own words = not (is_empty draft.own && are_all_keys words)
+is_later_line draft form.Log words = is_empty draft.own
+is_later_line draft form.Batch words = false
+is_later_line draft form.Set words = false
+is_later_line draft form.Life words = not (is_empty draft.lives)
+is_later_line draft form.Ask words = is_among_second later_requests words
+is_later_line draft form.Do words = is_among_first later_acts words
+is_later_line draft form.Close words = false
+is_later_line draft form.End words = false
+
+-- ---- where a line may stand
+
+abbrev pub is_allowed : Place → Form → Bool
+is_allowed place.Head form.Own = true
+is_allowed place.Head form.Log = true
+is_allowed place.Log form.Batch = true
+is_allowed place.Batch form.Batch = true
+is_allowed place.Batch form.Set = true
+is_allowed place.Log form.Life = true
+is_allowed place.Batch form.Life = true
+is_allowed place.Life form.Ask = true
+is_allowed place.Life form.Do = true
+is_allowed place.Life form.Close = true
+is_allowed place.Closed form.Life = true
+is_allowed place.Closed form.End = true
+is_allowed at other = false
+
+-- ---- what a line adds
+
+-- the list with its last item changed
+abbrev pub on_last : {A : Type 0} → (A → A) → List A → List A
+on_last f [] = []
+on_last f (x ∷ []) = f x ∷ []
+on_last f (x ∷ y ∷ ys) = x ∷ on_last f (y ∷ ys)
+
+abbrev pub last_version : List Batch → ℕ
+last_version [] = 0
+last_version (batch ∷ []) = batch.version
+last_version (batch ∷ next ∷ later) = last_version (next ∷ later)
+
+-- how many batches and requests a script may have, and up to which version a batch is played yet
+abbrev pub max_batches : ℕ
+max_batches = 1000000
+
+abbrev pub max_requests : ℕ
+max_requests = 100000
+
+abbrev pub max_played : ℕ
+max_played = 5000000
+
+abbrev pub no_mutations : ℕ → Batch
+no_mutations version = record { version = version; moves = []; mutations = [] }
+
+abbrev pub no_steps : ℕ → LifePlan
+no_steps upto = record { upto = upto; asks = []; lasts = []; dos = []; cuts = []; peerfails = []; kill = None }
+
+abbrev pub add_batch : Drafted → ℕ → Result Drafted Kind
+add_batch draft version =
+    if nat_le version (last_version draft.log) then Err kind.Version
+    else (if nat_lt max_played version then Err kind.Unbuilt
+    else (if nat_le max_batches (length draft.log) then Err kind.Limit
+    else Ok (record draft { place = place.Batch; log = draft.log ++ no_mutations version ∷ [] })))
+
+abbrev pub add_mutation : Mutation → Batch → Batch
+add_mutation mutation batch = record batch { mutations = batch.mutations ++ mutation ∷ [] }
+
+abbrev pub add_request : Request → LifePlan → LifePlan
+add_request request plan = record plan { asks = plan.asks ++ request ∷ [] }
+
+abbrev pub add_step : Do × ℕ → LifePlan → LifePlan
+add_step step plan = record plan { dos = plan.dos ++ step ∷ [] }
+
+-- the draft after a line, or the version or the limit that the line breaks
+abbrev pub add_line : Drafted → Line → Result Drafted Kind
+add_line draft line.Head = Ok (record draft { place = place.Head })
+add_line draft line.OwnsAll = Ok (record draft { own = all_keys ∷ [] })
+add_line draft line.LogBegins = Ok (record draft { place = place.Log })
+add_line draft (line.BatchOf version) = add_batch draft version
+add_line draft (line.Sets key value) = Ok (record draft { log = on_last (add_mutation (Set key value)) draft.log })
+add_line draft (line.LifeTo version) = Ok (record draft { place = place.Life; lives = draft.lives ++ no_steps version ∷ [] })
+add_line draft (line.Asks reader ask) =
+    if nat_le max_requests draft.requests then Err kind.Limit
+    else Ok (record draft {
+      lives = on_last (add_request (record { number = draft.requests + 1; reader = reader; ask = ask })) draft.lives;
+      requests = draft.requests + 1;
+    })
+add_line draft (line.Does step count) = Ok (record draft { lives = on_last (add_step (step, count)) draft.lives })
+add_line draft line.Closes = Ok (record draft { place = place.Closed })
+add_line draft line.Ends = Ok (record draft { place = place.Ended })

@@ -1,0 +1,24 @@
+use Rattle.std.proofs.Common.{sym, subst, arith}
+use Rattle.storage_tool.specs.Life.{IsPlayed, owning_all}
+use Rattle.storage_tool.proofs.Plays.{asks-count, begun_so, played}
+use Rattle.storage_tool.proofs.life.play_life.Goals as goal
+
+pub end-requires-clause-room : goal.end-requires-clause-room
+end-requires-clause-room c =
+    let plan = c.args.plan in
+    let given = owning_all c.args.settings c.args.log.now plan.upto in
+    let ends = begun_so given plan c.in_ok-running.running c.play_to_end-ending.new.self _ c.play_to_end-ending.result c.in_ok-running.ensures c.as_slice.ensures c.play_to_end-ending.ensures in
+    omega (arith, asks-count given plan c.play_to_end-ending.new.self c.play_to_end-ending.result ends, c.in_ok-room.ensures.exact, c.len.ensures)
+
+pub returns : goal.returns
+returns c =
+    let plan = c.args.plan in
+    let given = owning_all c.args.settings c.args.log.now plan.upto in
+    let plain = c.requires.plain in
+    let ends = begun_so given plan c.in_ok-running.running c.play_to_end-ending.new.self _ c.play_to_end-ending.result c.in_ok-running.ensures c.as_slice.ensures c.play_to_end-ending.ensures in
+    subst (IsPlayed given plan) (sym c.end.ensures)
+    (played given plan c.play_to_end-ending.new.self c.play_to_end-ending.result
+    (λ newest left run sound split. c.acts_soundly.ensures given plan.asks newest left run plain sound split)
+    (λ newest reader run sound. c.polls_soundly.ensures given plan.asks newest reader run plain sound)
+    (c.begins_soundly.ensures given plan plain) plain.rises
+    (λ newest run sound. c.faulted_is_a_life.ensures given plan newest run plain c.requires.plain_life sound) ends)

@@ -1,0 +1,113 @@
+-- What a run of the tool promises of its report, of what it reads and of what it writes.
+use Rattle.std.specs.Prelude.{◌≡◌, ◌⊎◌, ℕ, ◌<◌, List, [], ◌∷◌, take, map, codes, Option, Some, None, Ok, MatchResult}
+use Rattle.std.specs.Io.KnownBytes.{Appends, IsAtEnd}
+use Rattle.st_fold.specs.declared.plan.Kind.{Kind}
+use Rattle.st_fold.specs.declared.plan.Script.{Script}
+use Rattle.st_fold.specs.declared.report.Ending.{Ending}
+use Rattle.st_fold.specs.declared.report.Ending.TheVariants as ending
+use Rattle.st_fold.specs.declared.report.Fault.{Fault}
+use Rattle.st_fold.specs.declared.report.Fault.TheVariants as fault
+use Rattle.st_fold.specs.declared.report.Life.{Life}
+use Rattle.st_io.specs.Faults.{Rose}
+use Rattle.st_io.specs.Source.{Takes}
+use Rattle.st_model.specs.Report.{IsDemanded, fresh, given_by, status_of}
+use Rattle.st_model.specs.Schedule.{play}
+use Rattle.st_script.specs.Reading.{script_of, max_bytes}
+use Rattle.storage_tool.specs.declared.report.Form.TheVariants as form
+use Rattle.storage_tool.specs.declared.report.Report.{Report}
+use Rattle.storage_tool.specs.Text.{text_of}
+
+-- the words of the one command
+abbrev pub replay_words : List (List ℕ)
+replay_words = codes "replay" ∷ []
+
+-- the lives that the written schedules of a script's lives make, where nothing fails
+abbrev pub played : Script → List Life
+played script = map (λ plan. play (given_by script plan) (fresh script) plan) script.lives
+
+-- the run was cut short by the source or by want of memory
+abbrev pub IsInterruption : Option Fault → Type 0
+IsInterruption None = ⊥
+IsInterruption (Some fault.Words) = ⊥
+IsInterruption (Some (fault.Script line why)) = ⊥
+IsInterruption (Some (fault.Read faults)) = Unit {0}
+IsInterruption (Some fault.Memory) = Unit {0}
+
+-- A report on a script: one that the script demands of an empty store. Unless the run was interrupted, it has no fault,
+-- and its lives are those that the script's schedules make
+pub record ReportsScript (script : Script) (report : Report) : Type 0 where
+  pub demanded : IsDemanded script (fresh script) report.status report.fault report.lives
+  pub whole : ((report.fault ≡ None) × (report.lives ≡ played script)) ⊎ IsInterruption report.fault
+
+-- a report on bytes that are no script: it tells the first fault, unless the run was interrupted
+abbrev pub ReportsFault : ℕ × Kind → Report → Type 0
+ReportsFault why report = (report.fault ≡ Some (fault.Script why.0 why.1)) ⊎ IsInterruption report.fault
+
+-- a report on these bytes
+abbrev pub Reports : List ℕ → Report → Type 0
+Reports bytes report = MatchResult (script_of bytes) (λ script. ReportsScript script report) (λ why. ReportsFault why report)
+
+-- a fault that came before a life was begun leaves no lives
+abbrev pub HasNoLives : Option Fault → List Life → Type 0
+HasNoLives None lives = Unit {0}
+HasNoLives (Some fault.Words) lives = lives ≡ []
+HasNoLives (Some (fault.Script line why)) lives = lives ≡ []
+HasNoLives (Some (fault.Read faults)) lives = lives ≡ []
+HasNoLives (Some fault.Memory) lives = Unit {0}
+
+-- the status is that of the fault, and a fault before the lives leaves none
+pub record IsConsistent (report : Report) : Type 0 where
+  pub status : report.status ≡ status_of report.fault
+  pub lives : HasNoLives report.fault report.lives
+
+-- a fault that bytes that were read lead to
+abbrev pub IsOfScript : Option Fault → Type 0
+IsOfScript None = Unit {0}
+IsOfScript (Some fault.Words) = ⊥
+IsOfScript (Some (fault.Script line why)) = Unit {0}
+IsOfScript (Some (fault.Read faults)) = ⊥
+IsOfScript (Some fault.Memory) = Unit {0}
+
+-- the report of one life that was begun
+abbrev pub report_of : Life → Report
+report_of life = of life.ending
+  where
+    of : Ending → Report
+    of ending.Closed = record { status = 0; fault = None; lives = life ∷ []; form = form.Answers }
+    of ending.Killed = record { status = 0; fault = None; lives = life ∷ []; form = form.Answers }
+    of ending.Faulted = record { status = 9; fault = Some fault.Memory; lives = life ∷ []; form = form.Answers }
+
+-- a report on a script whose life was begun
+pub record IsReportOn (script : Script) (report : Report) : Type 0 where
+  pub reports : ReportsScript script report
+  pub consistent : IsConsistent report
+  pub fault : IsOfScript report.fault
+
+-- the source was read to its end, or past the limit of a script; nothing is said where words or source were faulty, or
+-- memory was refused
+abbrev pub IsReadOut : Option (List ℕ) → Option (List ℕ) → Option Fault → Type 0
+IsReadOut before now None = IsAtEnd now
+IsReadOut before now (Some (fault.Script line why)) = IsAtEnd now ⊎ ((n : ℕ) × (max_bytes < n) × Takes before now n)
+IsReadOut before now (Some fault.Words) = Unit {0}
+IsReadOut before now (Some (fault.Read faults)) = Unit {0}
+IsReadOut before now (Some fault.Memory) = Unit {0}
+
+-- a fault of the source is told only where its count rose, with the count now
+abbrev pub HasReadCause : ℕ → ℕ → Option Fault → Type 0
+HasReadCause before now (Some (fault.Read faults)) = Rose before now × (faults ≡ now)
+HasReadCause before now None = Unit {0}
+HasReadCause before now (Some fault.Words) = Unit {0}
+HasReadCause before now (Some (fault.Script line why)) = Unit {0}
+HasReadCause before now (Some fault.Memory) = Unit {0}
+
+-- What a sink holds is followed by the report's text, and the status is the report's. Or by a part of the text from its
+-- front: with status 5, which comes only where the sink's count of faults rose, or with 9 for want of memory
+pub record Writes (before now : Option (List ℕ)) (faults_before faults_now : ℕ) (report : Report) (status : ℕ) : Type 0 where
+  pub part : (n : ℕ) × Appends before now (take n (text_of report))
+  pub whole : ((status ≡ report.status) × Appends before now (text_of report)) ⊎ ((status ≡ 5) × Rose faults_before faults_now) ⊎ (status ≡ 9)
+
+-- A script that is in the grammar, read and written without a fault that is counted, gives status 0 with all of its
+-- lives, or 9 for want of memory
+pub record IsComplete (bytes : List ℕ) (faults_before faults_now : ℕ) (before now : Option (List ℕ)) (sink_before sink_now : ℕ) (report : Report) (status : ℕ) : Type 0 where
+  pub succeeds : (script : Script) → script_of bytes ≡ Ok script → ¬ Rose faults_before faults_now → ¬ Rose sink_before sink_now
+      → ((status ≡ 0) × (report.fault ≡ None) × (report.lives ≡ played script) × Appends before now (text_of report)) ⊎ (status ≡ 9)

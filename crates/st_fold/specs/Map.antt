@@ -1,5 +1,5 @@
 -- Maps from keys to values, and what folding a log gives.
-use Rattle.std.specs.Prelude.{ℕ, List, [], Option, filter, fold, nat_le}
+use Rattle.std.specs.Prelude.{ℕ, bytes_eq, List, [], Option, Some, filter, fold, nat_le, if◌then◌else◌}
 use Rattle.std.specs.Ordering.{nat_cmp}
 use Rattle.std.specs.Cmp.Lexicographic.{slice_cmp}
 use Rattle.std.specs.FinMap.Entries.{put, find}
@@ -18,6 +18,10 @@ value_at pairs key = find (slice_cmp nat_cmp) key pairs
 -- the map after one mutation
 abbrev pub apply : Map → Mutation → Map
 apply pairs (Set key value) = put (slice_cmp nat_cmp) key value pairs
+
+-- the value of a key after one mutation, where it had this one before
+abbrev pub value_by : List ℕ → Option (List ℕ) → Mutation → Option (List ℕ)
+value_by key before (Set other value) = if bytes_eq key other then Some value else before
 
 -- the map after the mutations of a batch, in their order
 abbrev pub apply_batch : Map → Batch → Map

@@ -9,9 +9,11 @@ mod report;
 mod request;
 #[cfg(test)]
 mod tests;
+mod value;
 
 pub use batch::{Batch, Move, Mutation};
 pub use plain::{PlainMap, fold_to};
 pub use plan::{Act, Do, Kind, LifePlan, Script, Settings};
 pub use report::{Answered, Ending, Event, Fault, Life};
 pub use request::{Answer, Ask, Request};
+pub use value::value_to;

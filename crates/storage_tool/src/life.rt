@@ -10,7 +10,7 @@ ghost use Rattle.storage_tool.specs.Life.{applied, asked, asked_at, asked_from, 
 
 use st_fold::{
     Act, Answer, Answered, Ask, Batch, Do, Ending, Event, Life, LifePlan, Request, Settings,
-    fold_to,
+    value_to,
 };
 use st_list::Items;
 use std::alloc::{AllocError, Global};
@@ -72,7 +72,6 @@ fn first_open(sessions: &[Session], reader: u32) -> Option<usize>
 // A life that was begun.
 #[derive(Drop)]
 struct Running<'a> {
-    alloc: Global,
     settings: Settings,
     log: &'a [Batch],
     // The greatest version that is applied.
@@ -148,7 +147,6 @@ impl<'a> Running<'a> {
         let mut trace = Vec::new(alloc);
         trace.push(Event::Opened(0))?;
         Ok(Running {
-            alloc,
             settings,
             log,
             upto,
@@ -228,8 +226,7 @@ impl<'a> Running<'a> {
             let polls = session.places.len() as u64 + 1;
             return Ok(self.future_version(polls));
         }
-        let pairs = fold_to(self.alloc, self.log, *version)?;
-        match pairs.get(key.bytes()) {
+        match value_to(self.log, key.bytes(), *version) {
             Some(value) => Ok(Some(Answer::Value(value.clone()?))),
             None => Ok(Some(Answer::Absent)),
         }

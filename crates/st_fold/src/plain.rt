@@ -67,11 +67,14 @@ impl PlainMap {
         Ok(())
     }
 
-    /// The value of a key.
-    pub fn get(&self, key: &[u8]) -> Option<&Value>
+    /// The bytes of a key's value.
+    pub fn get(&self, key: &[u8]) -> Option<&[u8]>
         ensures { option_copied result ≡ value_at self.now key.now }
     {
-        self.pairs.get(key)
+        match self.pairs.get(key) {
+            Some(value) => Some(value.bytes()),
+            None => None,
+        }
     }
 }
 

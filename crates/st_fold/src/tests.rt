@@ -21,22 +21,22 @@ fn batch(alloc: Global, version: u64, sets: &[(&[u8], &[u8])]) -> Result<Batch, 
     })
 }
 
-fn found<'a>(pairs: &'a PlainMap, key: &[u8]) -> Option<&'a [u8]> {
-    pairs.get(key).map(|value| value.bytes())
+fn value_at<'a>(log: &'a [Batch], key: &[u8], version: u64) -> Option<&'a [u8]> {
+    value_to(log, key, version).map(|value| value.bytes())
 }
 
 #[test]
 fn a_key_has_its_last_value(rt: HostRuntime) -> Result<(), Fail> {
     let alloc = rt.alloc();
     let mut pairs = PlainMap::new(alloc);
-    assert_eq!(rt; found(&pairs, b"a"), None);
+    assert_eq!(rt; pairs.get(b"a"), None);
     for (key, value) in [(b"b", b"1"), (b"a", b"2"), (b"c", b"3"), (b"a", b"4")] {
         pairs.apply(&set(alloc, key, value)?)?;
     }
-    assert_eq!(rt; found(&pairs, b"a"), Some(b"4".as_slice()));
-    assert_eq!(rt; found(&pairs, b"b"), Some(b"1".as_slice()));
-    assert_eq!(rt; found(&pairs, b"c"), Some(b"3".as_slice()));
-    assert_eq!(rt; found(&pairs, b"ab"), None);
+    assert_eq!(rt; pairs.get(b"a"), Some(b"4".as_slice()));
+    assert_eq!(rt; pairs.get(b"b"), Some(b"1".as_slice()));
+    assert_eq!(rt; pairs.get(b"c"), Some(b"3".as_slice()));
+    assert_eq!(rt; pairs.get(b"ab"), None);
     Ok(())
 }
 
@@ -60,9 +60,24 @@ fn a_log_is_folded_up_to_a_version(rt: HostRuntime) -> Result<(), Fail> {
     ];
     for (version, a, b, empty) in rows {
         let pairs = fold_to(alloc, log.as_slice(), version)?;
-        assert_eq!(rt; found(&pairs, b"a"), a, "a at {version}");
-        assert_eq!(rt; found(&pairs, b"b"), b, "b at {version}");
-        assert_eq!(rt; found(&pairs, b""), empty, "the empty key at {version}");
+        assert_eq!(rt; pairs.get(b"a"), a, "a at {version}");
+        assert_eq!(rt; pairs.get(b"b"), b, "b at {version}");
+        assert_eq!(rt; pairs.get(b""), empty, "the empty key at {version}");
+        assert_eq!(rt;
+            value_at(log.as_slice(), b"a", version),
+            a,
+            "a alone at {version}"
+        );
+        assert_eq!(rt;
+            value_at(log.as_slice(), b"b", version),
+            b,
+            "b alone at {version}"
+        );
+        assert_eq!(rt;
+            value_at(log.as_slice(), b"", version),
+            empty,
+            "the empty key alone at {version}"
+        );
     }
     Ok(())
 }
@@ -70,7 +85,8 @@ fn a_log_is_folded_up_to_a_version(rt: HostRuntime) -> Result<(), Fail> {
 #[test]
 fn an_empty_log_gives_the_empty_map(rt: HostRuntime) -> Result<(), Fail> {
     let pairs = fold_to(rt.alloc(), &[], 7)?;
-    assert_eq!(rt; found(&pairs, b""), None);
-    assert_eq!(rt; found(&pairs, b"a"), None);
+    assert_eq!(rt; pairs.get(b""), None);
+    assert_eq!(rt; pairs.get(b"a"), None);
+    assert_eq!(rt; value_at(&[], b"a", 7), None);
     Ok(())
 }

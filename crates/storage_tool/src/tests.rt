@@ -39,7 +39,7 @@ fn source(
 }
 
 #[test]
-fn scripts_and_their_transcripts(rt: HostRuntime) -> Result<(), Fail> {
+fn scripts_in_pieces_and_their_transcripts(rt: HostRuntime) -> Result<(), Fail> {
     let alloc = rt.alloc();
     let rows = [
         (FIRST_GET, 0, FIRST_GET_TEXT),
@@ -83,22 +83,12 @@ fn scripts_and_their_transcripts(rt: HostRuntime) -> Result<(), Fail> {
         ),
     ];
     for (script, status, text) in rows {
-        let mut out = ByteSink::new(alloc, Vec::new(alloc));
-        let mut script = source(alloc, script, 4096, &[])?;
-        assert_eq!(rt; run(alloc, "replay", &mut script, &mut out)?, status);
-        assert_eq!(rt; out.bytes(), text.as_bytes());
-    }
-    Ok(())
-}
-
-#[test]
-fn the_source_comes_in_pieces(rt: HostRuntime) -> Result<(), Fail> {
-    let alloc = rt.alloc();
-    for piece in [1, 2, 7] {
-        let mut out = ByteSink::new(alloc, Vec::new(alloc));
-        let mut script = source(alloc, FIRST_GET, piece, &[])?;
-        assert_eq!(rt; run(alloc, "replay", &mut script, &mut out)?, 0);
-        assert_eq!(rt; out.bytes(), FIRST_GET_TEXT.as_bytes());
+        for piece in [1, 2, 7, 4096] {
+            let mut out = ByteSink::new(alloc, Vec::new(alloc));
+            let mut script = source(alloc, script, piece, &[])?;
+            assert_eq!(rt; run(alloc, "replay", &mut script, &mut out)?, status);
+            assert_eq!(rt; out.bytes(), text.as_bytes());
+        }
     }
     Ok(())
 }

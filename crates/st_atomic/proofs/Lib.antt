@@ -1,0 +1,4 @@
+pub mod Bytes
+pub mod Lengths
+mod Rows
+pub mod Sweeps

@@ -1,0 +1,4 @@
+pub mod Changes
+pub mod Nearest
+pub mod Pairs
+mod Rows

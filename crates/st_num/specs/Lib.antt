@@ -1,1 +1,2 @@
 pub mod Number
+pub use Rattle.byteorder.specs.Numbers

@@ -1,0 +1,10 @@
+mod FramesLemmas
+mod Syncs
+mod Ends
+mod Crash
+mod Current
+mod Puts
+mod Appends
+mod Idle
+mod Recycles
+mod Held

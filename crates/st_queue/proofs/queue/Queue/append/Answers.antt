@@ -1,0 +1,13 @@
+use Rattle.st_queue.proofs.queue.Queue.append.Goals as goal
+
+pub returns-clause-appends : goal.returns-clause-appends
+returns-clause-appends g c = rw (← c.self.view_is) c.append.ensures.appends
+
+pub returns-clause-broken : goal.returns-clause-broken
+returns-clause-broken g c = rw (← c.self.view_is) c.append.ensures.broken
+
+pub returns-clause-full : goal.returns-clause-full
+returns-clause-full g c = rw (← c.self.view_is) c.append.ensures.full
+
+pub returns-clause-number : goal.returns-clause-number
+returns-clause-number g c = rw (← c.self.view_is) c.append.ensures.number

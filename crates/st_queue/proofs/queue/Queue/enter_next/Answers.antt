@@ -1,0 +1,7 @@
+use Rattle.st_queue.proofs.queue.Queue.enter_next.Goals as goal
+
+pub returns-clause-enters : goal.returns-clause-enters
+returns-clause-enters g c = rw (← c.self.view_is) c.enter_next.ensures.enters
+
+pub returns-clause-broken : goal.returns-clause-broken
+returns-clause-broken g c = rw (← c.self.view_is) c.enter_next.ensures.broken

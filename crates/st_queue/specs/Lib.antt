@@ -1,0 +1,9 @@
+pub mod Frames
+pub mod Place
+pub mod Writing
+pub mod Prepared
+pub mod Queue
+pub mod Reading
+pub mod Mounting
+pub use Rattle.st_disk.specs.History
+pub use Rattle.st_disk.specs.Moments

@@ -1,0 +1,42 @@
+-- What a queue asks of its disk when it is mounted.
+use Rattle.std.specs.Prelude.{◌≡◌, ◌≤◌, ℕ, Option, Result, IfSome, IsErrOf}
+use Rattle.st_disk.specs.History.{History, Files, MayLeave, after_sync, counted, risen}
+use Rattle.st_queue.specs.declared.frame.QueueRefusal.{QueueRefusal}
+use Rattle.st_queue.specs.declared.frame.QueueRefusal.TheVariants.{Damaged, NoMemory, DiskFault, Broken, Full}
+
+-- A crash may leave this of the disk, where it tells its history.
+abbrev pub IsImageOf : Option History → Files → Type 0
+IsImageOf told images = IfSome told (λ h. MayLeave h images)
+
+-- the history after a sync of file 0 and one of file 1
+abbrev pub after_both : History → History
+after_both h = counted (after_sync 1 (counted (after_sync 0 h)))
+
+-- A fault carries the disk's count, which rose in the call, or stands at its end.
+pub record HasFault {T : Type 0} (before now : ℕ) (result : Result T QueueRefusal) : Type 0 where
+  pub never_falls : before ≤ now
+  pub fault : (faults : ℕ) → IsErrOf result (DiskFault faults) → (faults ≡ now) × (risen before ≤ now)
+
+-- the disk failed, or memory is wanting
+abbrev pub IsOutside : QueueRefusal → Type 0
+IsOutside (DiskFault faults) = Unit {0}
+IsOutside NoMemory = Unit {0}
+IsOutside (Damaged file at) = ⊥
+IsOutside (Broken faults) = ⊥
+IsOutside (Full length limit) = ⊥
+
+-- the disk failed, memory is wanting, or the files have no reading
+abbrev pub IsOfMount : QueueRefusal → Type 0
+IsOfMount (DiskFault faults) = Unit {0}
+IsOfMount NoMemory = Unit {0}
+IsOfMount (Damaged file at) = Unit {0}
+IsOfMount (Broken faults) = ⊥
+IsOfMount (Full length limit) = ⊥
+
+-- memory is wanting, or the files have no reading
+abbrev pub IsOfReading : QueueRefusal → Type 0
+IsOfReading NoMemory = Unit {0}
+IsOfReading (Damaged file at) = Unit {0}
+IsOfReading (DiskFault faults) = ⊥
+IsOfReading (Broken faults) = ⊥
+IsOfReading (Full length limit) = ⊥

@@ -1,0 +1,135 @@
+// Writes to a queue's disk.
+ghost use Rattle.std.specs.Prelude.{◌≡◌, ◌<◌, ◌≤◌, ◌+◌, ◌^◌, length, true, false, Some, None, IfOk, OnOk, IfErr, IsErrOf};
+ghost use Rattle.std.specs.Option.{option_map, ForSome};
+ghost use Rattle.st_disk.specs.History.{of_file, seen};
+ghost use Rattle.st_disk.specs.Moments.{ToldLeavesOnly};
+ghost use Rattle.st_queue.specs.declared.frame.QueueRefusal.TheVariants.{NoMemory};
+ghost use Rattle.st_queue.specs.Mounting.{HasFault, IsOutside};
+ghost use Rattle.st_queue.specs.Place.{is_unshut};
+ghost use Rattle.st_queue.specs.Prepared.{IsPrepared, Shuts, Heads, Enters};
+ghost use Rattle.st_queue.specs.Writing.{IsSynced, IsSettled, LeavesTorn, Appends, after_put, frame_bytes, header_bytes};
+
+use crate::mounting::fault;
+use crate::reading::MARK;
+use crate::{Place, QueueRefusal};
+use st_disk::{Disk, DiskRefusal};
+use st_num::{put_u32, put_u64};
+use std::alloc::{AllocError, Global};
+
+const OPEN: u8 = 1;
+
+const CLOSED: u8 = 0;
+
+// A frame behind its gate, with the next gate closed.
+#[tactic(auto, unfolding(crate::specs::Writing::frame_bytes))]
+fn frame_bytes(alloc: Global, number: u64, payload: &[u8]) -> Result<Vec<u8>, AllocError>
+    requires { length payload.now < 2 ^ 32 }
+    ensures { IfOk result (λ bytes. bytes.items ≡ frame_bytes number payload.now) }
+{
+    let mut bytes = Vec::new(alloc);
+    put_u32(&mut bytes, payload.len() as u32)?;
+    put_u64(&mut bytes, number)?;
+    bytes.extend_from_slice(payload)?;
+    bytes.push(CLOSED)?;
+    Ok(bytes)
+}
+
+/// Writes a frame behind the current file's closed gate, and then opens the gate.
+pub(crate) fn append_frame<D: Disk>(
+    alloc: Global,
+    disk: &mut D,
+    place: Place,
+    payload: &[u8],
+) -> Result<(), QueueRefusal>
+    requires settled { ForSome (D.history disk.old) (λ h. IsSettled h (Some place)) }
+    requires file { place.file < 2 }
+    requires gate { place.gate < 2 ^ 63 }
+    requires next { place.next < 2 ^ 64 }
+    requires small { length payload.now < 2 ^ 32 }
+
+    ensures appends { Appends (D.history disk.old) (D.history disk.new) place payload.now result }
+    ensures err { IfErr result IsOutside }
+    ensures cause { HasFault (D.fault_count disk.old) (D.fault_count disk.new) result }
+{
+    let bytes = frame_bytes(alloc, place.next, payload)?;
+    put(disk, place.file, place.gate + 1, &bytes)?;
+    put(disk, place.file, place.gate, &[OPEN])
+}
+
+// A header behind its gate, with the first frame's gate closed.
+#[tactic(auto, unfolding(crate::specs::Writing::header_bytes))]
+fn header_bytes(alloc: Global, generation: u64, first: u64) -> Result<Vec<u8>, AllocError>
+    ensures { IfOk result (λ bytes. bytes.items ≡ header_bytes generation first) }
+{
+    let mut bytes = MARK.to_vec(alloc)?;
+    put_u64(&mut bytes, generation)?;
+    put_u64(&mut bytes, first)?;
+    bytes.push(CLOSED)?;
+    Ok(bytes)
+}
+
+/// Shuts file 0, where no file is live.
+pub(crate) fn shut<D: Disk>(disk: &mut D) -> Result<(), QueueRefusal>
+    requires settled { ForSome (D.history disk.old) (λ h. IsSettled h None) }
+    requires unshut { ForSome (D.history disk.old) (λ h. is_unshut (seen h).0 ≡ true) }
+    ensures shuts { Shuts (D.history disk.old) (D.history disk.new) result }
+    ensures err { IfErr result IsOutside }
+    ensures cause { HasFault (D.fault_count disk.old) (D.fault_count disk.new) result }
+{
+    put(disk, 0, 0, &[CLOSED])
+}
+
+/// Writes the header of file 0 behind its closed gate, where no file is live.
+pub(crate) fn write_header<D: Disk>(
+    alloc: Global,
+    disk: &mut D,
+    generation: u64,
+    first: u64,
+) -> Result<(), QueueRefusal>
+    requires settled { ForSome (D.history disk.old) (λ h. IsSettled h None) }
+    requires shut { ForSome (D.history disk.old) (λ h. is_unshut (seen h).0 ≡ false) }
+    requires generation { generation ≤ 2 ^ 62 }
+    requires first { first ≤ 2 ^ 62 }
+    ensures heads { Heads (D.history disk.old) (D.history disk.new) generation first result }
+    ensures err { IfErr result IsOutside }
+    ensures cause { HasFault (D.fault_count disk.old) (D.fault_count disk.new) result }
+{
+    let bytes = header_bytes(alloc, generation, first)?;
+    put(disk, 0, 1, &bytes)
+}
+
+/// Opens the gate of file 0, which has its header, where no file is live.
+pub(crate) fn enter<D: Disk>(disk: &mut D, place: Place) -> Result<(), QueueRefusal>
+    requires settled { ForSome (D.history disk.old) (λ h. IsSettled h None) }
+    requires prepared { ForSome (D.history disk.old) (λ h. IsPrepared (seen h).0 place.generation place.next) }
+    requires file { place.file ≡ 0 }
+    requires gate { place.gate ≡ 28 }
+    ensures enters { Enters (D.history disk.old) (D.history disk.new) place result }
+    ensures err { IfErr result IsOutside }
+    ensures cause { HasFault (D.fault_count disk.old) (D.fault_count disk.new) result }
+{
+    put(disk, 0, 0, &[OPEN])
+}
+
+/// Writes to a file of a synced disk, and syncs it. A crash may leave any bytes in the range meanwhile.
+fn put<D: Disk>(disk: &mut D, file: u8, at: u64, bytes: &[u8]) -> Result<(), QueueRefusal>
+    requires file { file < 2 }
+    requires begins { ForSome (D.history disk.old) (λ h. at ≤ length (of_file file (seen h))) }
+    requires synced { ForSome (D.history disk.old) IsSynced }
+    ensures ok { OnOk result (D.history disk.new ≡ option_map (after_put file at bytes.now) (D.history disk.old)) }
+    ensures no_memory { IsErrOf result NoMemory → D.history disk.new ≡ D.history disk.old }
+    ensures err { IfErr result IsOutside }
+    ensures any_moment { ToldLeavesOnly (D.history disk.old) (D.history disk.new)
+        (LeavesTorn file at (length bytes.now) (D.history disk.old)) }
+    ensures cause { HasFault (D.fault_count disk.old) (D.fault_count disk.new) result }
+{
+    match disk.write_at(file, at, bytes) {
+        Ok(()) => {}
+        Err(DiskRefusal::NoMemory) => return Err(QueueRefusal::NoMemory),
+        Err(DiskRefusal::Failed) => return Err(fault(disk)),
+    }
+    if disk.sync(file).is_err() {
+        return Err(fault(disk));
+    }
+    Ok(())
+}

@@ -1,11 +1,14 @@
 -- Worked maps and logs, computed from the definitions alone.
-use Rattle.std.specs.Prelude.{codes}
+use Rattle.std.specs.Prelude.{codes, pos, negsuc, true, false}
 use Rattle.std.proofs.Common.{◌≡◌, ℕ, List, [], ◌∷◌, Some, None, refl}
-use Rattle.st_fold.specs.declared.batch.Batch.{Batch}
-use Rattle.st_fold.specs.declared.batch.Mutation.{Mutation}
-use Rattle.st_fold.specs.declared.batch.Mutation.TheVariants.{Set}
-use Rattle.st_fold.specs.declared.request.Answer.TheVariants.{Value, Absent}
-use Rattle.st_fold.specs.declared.request.Ask.TheVariants.{Get}
+use Rattle.st_atomic.specs.declared.AtomicOp.TheVariants.{Add, CompareAndClear}
+use Rattle.st_mutation.specs.declared.batch.Batch.{Batch}
+use Rattle.st_mutation.specs.declared.batch.Mutation.{Mutation}
+use Rattle.st_mutation.specs.declared.batch.Mutation.TheVariants.{Set, Clear, Atomic}
+use Rattle.st_fold.specs.declared.request.Answer.TheVariants.{Value, Absent, Rows, KeyIs}
+use Rattle.st_fold.specs.declared.request.Ask.TheVariants as ask
+use Rattle.st_fold.specs.declared.request.Found.TheVariants as found
+use Rattle.st_key.specs.Spans.{Span}
 use Rattle.st_fold.specs.Map.{Map, value_at, apply, folded}
 use Rattle.st_fold.specs.Reading.{span_of, plain}
 
@@ -54,16 +57,74 @@ present = refl
 absent : value_at pairs (codes "ab") ≡ None
 absent = refl
 
-get_present : plain (folded log 4) (Get (codes "a") 4) ≡ Value (codes "2")
+get_present : plain (folded log 4) (ask.Get (codes "a") 4) ≡ Value (codes "2")
 get_present = refl
 
 -- the empty value is a value
-get_empty_value : plain (folded log 5) (Get (codes "a") 5) ≡ Value []
+get_empty_value : plain (folded log 5) (ask.Get (codes "a") 5) ≡ Value []
 get_empty_value = refl
 
-get_absent : plain (folded log 5) (Get [] 5) ≡ Absent
+get_absent : plain (folded log 5) (ask.Get [] 5) ≡ Absent
 get_absent = refl
 
 -- a get looks at its one key: from it up to the next key
-keys_of_a_get : span_of (Get (codes "a") 4) ≡ record { begin = codes "a"; end = 97 ∷ 0 ∷ [] }
+keys_of_a_get : span_of (ask.Get (codes "a") 4) ≡ record { begin = codes "a"; end = 97 ∷ 0 ∷ [] }
 keys_of_a_get = refl
+
+-- three keys are set, then the first two cleared, then the second set again
+abbrev cleared : List Batch
+cleared =
+    batch 1 (Set (97 ∷ []) (49 ∷ []) ∷ Set (98 ∷ []) (50 ∷ []) ∷ Set (99 ∷ []) (51 ∷ []) ∷ [])
+    ∷ batch 2 (Clear (record { begin = 97 ∷ []; end = 99 ∷ [] }) ∷ []) ∷ batch 3 (Set (98 ∷ []) (57 ∷ []) ∷ []) ∷ []
+
+abbrev three : Map
+three = (97 ∷ [], 49 ∷ []) ∷ (98 ∷ [], 50 ∷ []) ∷ (99 ∷ [], 51 ∷ []) ∷ []
+
+before_the_clear : folded cleared 1 ≡ three
+before_the_clear = refl
+
+-- a clear takes its begin, and leaves its end
+after_the_clear : folded cleared 2 ≡ (99 ∷ [], 51 ∷ []) ∷ []
+after_the_clear = refl
+
+set_again : folded cleared 3 ≡ (98 ∷ [], 57 ∷ []) ∷ (99 ∷ [], 51 ∷ []) ∷ []
+set_again = refl
+
+-- ff and 1 make 0 in one byte, and no key with the value is left where the compared value is the key's
+added : apply ((97 ∷ [], 255 ∷ []) ∷ []) (Atomic Add (97 ∷ []) (1 ∷ [])) ≡ (97 ∷ [], 0 ∷ []) ∷ []
+added = refl
+
+compared : apply three (Atomic CompareAndClear (98 ∷ []) (50 ∷ [])) ≡ (97 ∷ [], 49 ∷ []) ∷ (99 ∷ [], 51 ∷ []) ∷ []
+compared = refl
+
+abbrev all_keys : Span
+all_keys = record { begin = []; end = 255 ∷ [] }
+
+-- one row of the reverse, and there are more
+last_row : plain (folded cleared 3) (ask.Rows all_keys 1 1000 true 3) ≡ Rows ((99 ∷ [], 51 ∷ []) ∷ []) true
+last_row = refl
+
+-- the first row already has the two bytes
+byte_limit : plain (folded cleared 1) (ask.Rows (record { begin = 97 ∷ []; end = 100 ∷ [] }) 10 2 false 1)
+    ≡ Rows ((97 ∷ [], 49 ∷ []) ∷ []) true
+byte_limit = refl
+
+row_limit : plain (folded cleared 1) (ask.Rows (record { begin = 97 ∷ []; end = 100 ∷ [] }) 3 1000 false 1) ≡ Rows three false
+row_limit = refl
+
+-- the first key above a is b, none lies before b, and none lies after c
+next_key : plain (folded cleared 3) (ask.Select (97 ∷ []) true (pos 1) all_keys 3) ≡ KeyIs (found.Key (98 ∷ []))
+next_key = refl
+
+none_before : plain (folded cleared 3) (ask.Select (98 ∷ []) false (pos 0) all_keys 3) ≡ KeyIs found.Before
+none_before = refl
+
+none_after : plain (folded cleared 3) (ask.Select (99 ∷ []) true (pos 1) all_keys 3) ≡ KeyIs found.After
+none_after = refl
+
+key_before : plain (folded cleared 1) (ask.Select (99 ∷ []) false (pos 0) all_keys 1) ≡ KeyIs (found.Key (98 ∷ []))
+key_before = refl
+
+-- two back from the place of c
+two_back : plain (folded cleared 1) (ask.Select (99 ∷ []) true (negsuc 1) all_keys 1) ≡ KeyIs (found.Key (97 ∷ []))
+two_back = refl

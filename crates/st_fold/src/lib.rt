@@ -2,7 +2,9 @@
 //! plays, and what a run reports.
 #![tactic(auto)]
 
-mod batch;
+mod answer;
+mod assigned;
+mod atomic;
 mod plain;
 mod plan;
 mod report;
@@ -11,9 +13,11 @@ mod request;
 mod tests;
 mod value;
 
-pub use batch::{Batch, Move, Mutation};
+pub use answer::answer_to;
+pub use assigned::assigned_to;
 pub use plain::{PlainMap, fold_to};
 pub use plan::{Act, Do, Kind, LifePlan, Script, Settings};
-pub use report::{Answered, Ending, Event, Fault, Life};
-pub use request::{Answer, Ask, Request};
+pub use report::{Answered, Damage, Ending, Event, Fault, ForeignPart, Life};
+pub use request::{Answer, Ask, Found, Request};
+pub use st_key::MetaPart;
 pub use value::value_to;

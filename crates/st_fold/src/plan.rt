@@ -1,7 +1,8 @@
 //! The script that a run plays.
-use crate::{Batch, Request};
+use crate::Request;
 use st_key::Ranges;
 use st_list::Items;
+use st_mutation::Batch;
 
 /// The numbers that a script sets.
 #[derive(Clone, Copy, Debug, PartialEq, Eq)]

@@ -1,6 +1,7 @@
 //! What a run reports of its lives.
 use crate::{Answer, Kind};
-use st_key::{Key, Value};
+use bytes::Bytes;
+use st_key::{Key, MetaPart, Value};
 use st_list::Items;
 
 /// One entry of the trace of a life.
@@ -60,8 +61,28 @@ pub struct Life {
     pub ending: Ending,
 }
 
-/// Why a run ended early.
+/// What of a store's files can't be read.
 #[derive(Clone, Copy, Debug, PartialEq, Eq)]
+pub enum Damage {
+    /// This file, at this place.
+    File { file: u8, at: u64 },
+    /// The stored pairs of the server's state.
+    Meta { which: MetaPart },
+}
+
+/// What of a store isn't that of the script's log.
+#[derive(Debug, Drop)]
+pub enum ForeignPart {
+    /// The durable version.
+    Version,
+    /// The assigned ranges.
+    Assigned,
+    /// The value of this key.
+    Key(Bytes),
+}
+
+/// Why a run ended early.
+#[derive(Debug, Drop)]
 pub enum Fault {
     /// The words of the command line are no command.
     Words,
@@ -69,6 +90,16 @@ pub enum Fault {
     Script { line: u64, kind: Kind },
     /// The source failed; the count of its faults.
     Read { faults: u64 },
+    /// The disk failed; the count of its faults.
+    Device { faults: u64 },
+    /// The source of fetches failed; the count of its faults.
+    Peer { faults: u64 },
+    /// The store can't be read.
+    Damaged(Damage),
     /// Memory was refused.
     Memory,
+    /// A queue file would have more bytes than it may.
+    Full { length: u64, limit: u64 },
+    /// The store is that of another log.
+    Foreign(ForeignPart),
 }

@@ -4,7 +4,7 @@ use Rattle.std.proofs.lemmas.Bool.{cond_both, cond-true, cond-false, le-ltb, lt-
 use Rattle.std.specs.List.{AllByRecursion, find}
 use Rattle.st_fold.specs.Map.{batches_to}
 use Rattle.st_fold.specs.Plain.{Rises}
-use Rattle.st_fold.specs.declared.batch.Batch.{Batch}
+use Rattle.st_mutation.specs.declared.batch.Batch.{Batch}
 use Rattle.st_model.specs.Plain.{IsSplit, first_to, plain_state}
 use Rattle.st_model.specs.State.{Given, next_batch}
 use Rattle.st_model.proofs.Lists.{all_map, all_append}

@@ -1,9 +1,9 @@
 -- The lives that sound runs make.
 use Rattle.std.proofs.Common.{◌≡◌, ◌≢◌, ℕ, ◌-◌, ◌≤◌, Bool, true, false, not, ◌&&◌, ◌||◌, ◌==◌, nat_lt, nat_le, cond, List, [], ◌∷◌, ◌++◌, map, length, All, Option, Some, None, is_none, IsSome, unwrap_or, refl, sym, ap, ap₂, ◌∙◌, subst, inl, inr, ◌⊎◌, arith, append-nil}
-use Rattle.std.proofs.lemmas.Bool.{cond_both, cond-false, and_parts, and_from, or_parts, leb-true, ne_eqb, eq-eqb}
-use Rattle.std.specs.List.{AllByRecursion, list_all, list_any, fold}
-use Rattle.st_fold.specs.Plain.{IsOfReader, IsPlainLife}
-use Rattle.st_fold.specs.declared.batch.Batch.{Batch}
+use Rattle.std.proofs.lemmas.Bool.{cond_both, and_parts, and_from, or_parts, leb-true, eq-eqb}
+use Rattle.std.specs.List.{AllByRecursion, list_all, list_any}
+use Rattle.st_fold.specs.Plain.{IsPlainLife}
+use Rattle.st_mutation.specs.declared.batch.Batch.{Batch}
 use Rattle.st_fold.specs.declared.plan.LifePlan.{LifePlan}
 use Rattle.st_fold.specs.declared.report.Answered.{Answered}
 use Rattle.st_fold.specs.declared.report.Ending.{Ending}
@@ -14,7 +14,7 @@ use Rattle.st_fold.specs.declared.request.Answer.TheVariants.{Stopped}
 use Rattle.st_model.specs.State.{Given, State, next_batch}
 use Rattle.st_model.specs.Trace.{is_end, state_after, greatest_to, is_at_rest}
 use Rattle.st_model.specs.Session.{Answers, NeverFalls, outcome}
-use Rattle.st_model.specs.Report.{AreAnswered, IsLife, is_cut_short, place_request, places_of, requests_of}
+use Rattle.st_model.specs.Report.{AreAnswered, IsLife, is_cut_short, places_of, requests_of}
 use Rattle.st_model.specs.Schedule.{Session, Run, answered_by, is_open, last_events, life_of}
 use Rattle.st_model.specs.Plain.{IsSound, IsSoundSession, fresh_opening, plain_state, outcome_of, polls_of, is_answered}
 use Rattle.st_model.proofs.Lists.{all_at}
@@ -40,17 +40,17 @@ shut_is_answered session h = by_answer session.answer h
         cc
     by_answer (Some answer) e = refl
 
-pub all_answered : (sessions : List Session) → AllByRecursion IsOfReader (map (λ (session : Session). session.request) sessions)
-    → ((reader : ℕ) → 1 ≤ reader → reader ≤ 64 → list_any (is_open reader) sessions ≡ false)
+pub all_answered : (sessions : List Session) → AllByRecursion (λ (session : Session). session.request.reader ≤ 64) sessions
+    → ((reader : ℕ) → reader ≤ 64 → list_any (is_open reader) sessions ≡ false)
     → list_all is_answered sessions ≡ true
 all_answered [] readers shut = refl
 all_answered (session ∷ later) readers shut =
     and_from (is_answered session) (list_all is_answered later)
     (shut_is_answered session
     (or_parts (is_open session.request.reader session) (list_any (is_open session.request.reader) later)
-    (shut session.request.reader readers.0.least readers.0.most)).0)
+    (shut session.request.reader readers.0)).0)
     (all_answered later readers.1
-    (λ reader least most. (or_parts (is_open reader session) (list_any (is_open reader) later) (shut reader least most)).1))
+    (λ reader most. (or_parts (is_open reader session) (list_any (is_open reader) later) (shut reader most)).1))
 
 one_answer : (given : Given) (run : Run) (how : Ending) (session : Session) → IsSoundSession given run session
     → (is_cut_short how ≡ true) ⊎ (is_answered session ≡ true)
@@ -103,19 +103,6 @@ places_are reader [] = refl
 places_are reader (session ∷ later) =
     ap (λ places. cond (session.request.reader == reader) (session.places ++ places) places) (places_are reader later)
 
--- no reader has the number 0
-none_of_zero : (sessions : List Session) → AllByRecursion IsOfReader (map (λ (session : Session). session.request) sessions)
-    → polls_of 0 sessions ≡ []
-none_of_zero [] readers = refl
-none_of_zero (session ∷ later) readers =
-    cond-false (session.request.reader == 0) (session.places ++ polls_of 0 later) (polls_of 0 later)
-    (ne_eqb session.request.reader 0 (λ zero. omega (arith, zero, readers.0.least)))
-    ∙ none_of_zero later readers.1
-
-requests_are : (plan : LifePlan) (sessions : List Session) → IsPlainLife plan
-    → map (λ (session : Session). session.request) sessions ≡ plan.asks → requests_of plan ≡ map (λ (session : Session). session.request) sessions
-requests_are plan sessions plain e = ap (λ lasts. fold place_request plan.asks lasts) plain.no_lasts ∙ sym e
-
 -- ---- the end
 
 -- the window lets no batch go
@@ -150,9 +137,9 @@ none_stopped given run (session ∷ later) sound all =
 
 -- ---- lives
 
-module _ (given : Given) (plan : LifePlan) (newest : ℕ) (run : Run) (plain : IsPlainLife plan) (sound : IsSound given plan.asks newest run) where
+module _ (given : Given) (plan : LifePlan) (newest : ℕ) (run : Run) (plain : IsPlainLife plan) (sound : IsSound given (requests_of plan) newest run) where
   requested : requests_of plan ≡ map (λ (session : Session). session.request) run.sessions
-  requested = requests_are plan run.sessions plain sound.requests
+  requested = sym sound.requests
 
   answers_are : (how : Ending) → (is_cut_short how ≡ true) ⊎ (list_all is_answered run.sessions ≡ true)
       → AreAnswered given fresh_opening (life_of fresh_opening run how) (requests_of plan) (map answered_by run.sessions)
@@ -176,8 +163,9 @@ module _ (given : Given) (plan : LifePlan) (newest : ℕ) (run : Run) (plain : I
   }
 
   pub closed : next_batch given (plain_state newest) ≡ None → list_all is_answered run.sessions ≡ true
+      → AllByRecursion (λ place. place ≡ length run.trace) (polls_of 0 run.sessions)
       → IsLife given fresh_opening plan (life_of fresh_opening run ending.Closed)
-  closed last all = record {
+  closed last all at_the_end = record {
     opened = refl;
     legal = subst (λ (o : Option State). IsSome o)
         (sym (state_after_push given fresh_opening run.trace (plain_state newest) Closed sound.state sound.going_on)) refl;
@@ -192,10 +180,7 @@ module _ (given : Given) (plan : LifePlan) (newest : ℕ) (run : Run) (plain : I
       plain.no_kill,
       all_at (λ (answered : Answered). answered.answer ≢ Stopped) (map answered_by run.sessions)
           (none_stopped given run run.sessions sound.sessions all),
-      subst (All (λ place. place ≡ length run.trace)) (sym no_lasts) (all_at (λ place. place ≡ length run.trace) [] tt),
+      subst (All (λ place. place ≡ length run.trace)) (sym (polled_at 0))
+          (all_at (λ place. place ≡ length run.trace) (polls_of 0 run.sessions) at_the_end),
     );
   }
-    where
-      no_lasts : places_of 0 (requests_of plan) (map answered_by run.sessions) ≡ []
-      no_lasts = polled_at 0
-          ∙ none_of_zero run.sessions (subst (AllByRecursion IsOfReader) (sym sound.requests) plain.asks)

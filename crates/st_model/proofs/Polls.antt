@@ -5,12 +5,12 @@ use Rattle.std.specs.List.{AllByRecursion}
 use Rattle.std.specs.Option.{option_map_or}
 use Rattle.st_fold.specs.Map.{Map, folded, value_at}
 use Rattle.st_fold.specs.Reading.{version_of, span_of, plain}
-use Rattle.st_fold.specs.declared.batch.Batch.{Batch}
+use Rattle.st_mutation.specs.declared.batch.Batch.{Batch}
 use Rattle.st_fold.specs.declared.report.Event.{Event}
 use Rattle.st_fold.specs.declared.request.Answer.{Answer}
 use Rattle.st_fold.specs.declared.request.Answer.TheVariants.{Value, Absent, FutureVersion, Stopped}
 use Rattle.st_fold.specs.declared.request.Ask.{Ask}
-use Rattle.st_fold.specs.declared.request.Ask.TheVariants.{Get}
+use Rattle.st_fold.specs.declared.request.Ask.TheVariants.{Get, Rows, Select, Watch}
 use Rattle.st_model.specs.State.{Given, Opening, State}
 use Rattle.st_model.specs.Trace.{state_after, state_at}
 use Rattle.st_model.specs.Reply.{Reply, too_old, not_yet, wrong_shard, found, first_unreadable, reply_unless, reply}
@@ -40,6 +40,9 @@ found_one : (patience polls : ℕ) (pairs : Map) (ask : Ask) → IsNotStopped pa
 found_one patience polls pairs (Get key version) =
     elim (value_at pairs key) as (λ o. Some (option_map_or Value o Absent) ≡ Some Stopped → ⊥)
     [ None ↦ λ e. cc | Some value ↦ λ e. cc ]
+found_one patience polls pairs (Rows range rows bytes backward version) = λ e. cc
+found_one patience polls pairs (Select key or_equal offset range version) = λ e. cc
+found_one patience polls pairs (Watch key value) = λ e. cc
 
 not_stopped : (patience polls : ℕ) (log : List Batch) (state : State) (ask : Ask)
     → IsNotStopped patience polls (reply log state ask)

@@ -5,16 +5,18 @@ use Rattle.st_fold.specs.declared.plan.Kind.TheVariants as kind
 use Rattle.st_fold.specs.declared.plan.LifePlan.{LifePlan}
 use Rattle.st_fold.specs.declared.plan.Script.{Script}
 use Rattle.st_fold.specs.declared.report.Answered.{Answered}
+use Rattle.st_fold.specs.declared.report.Damage.TheVariants as damage
 use Rattle.st_fold.specs.declared.report.Ending.{Ending}
 use Rattle.st_fold.specs.declared.report.Ending.TheVariants as ending
 use Rattle.st_fold.specs.declared.report.Event.{Event}
 use Rattle.st_fold.specs.declared.report.Event.TheVariants.{Opened, Applied, Closed, Killed}
 use Rattle.st_fold.specs.declared.report.Fault.TheVariants as fault
+use Rattle.st_fold.specs.declared.report.ForeignPart.TheVariants as foreign
 use Rattle.st_fold.specs.declared.report.Life.{Life}
 use Rattle.st_fold.specs.declared.request.Answer.{Answer}
 use Rattle.st_fold.specs.declared.request.Answer.TheVariants.{Value, Absent, FutureVersion, Stopped}
 use Rattle.st_model.specs.Plain.{fresh_opening, plain_state}
-use Rattle.st_model.specs.Report.{IsDemanded, IsLife, fresh, status_of}
+use Rattle.st_model.specs.Report.{IsDemanded, IsLife, ends_life, fresh, status_of}
 use Rattle.st_model.specs.State.{Given}
 use Rattle.st_model.specs.Trace.{is_at_rest, state_after}
 use Rattle.st_model.proofs.Rows.{asking, given_to, life_to, set}
@@ -110,9 +112,17 @@ opens_empty : fresh script ≡ record { version = 0; available = given.own }
 opens_empty = refl
 
 statuses : map status_of
-    (None ∷ Some fault.Words ∷ Some (fault.Script 1 kind.Head) ∷ Some (fault.Read 1) ∷ Some fault.Memory ∷ [])
-    ≡ 0 ∷ 2 ∷ 3 ∷ 4 ∷ 9 ∷ []
+    (None ∷ Some fault.Words ∷ Some (fault.Script 1 kind.Head) ∷ Some (fault.Read 1) ∷ Some (fault.Device 1) ∷ Some (fault.Peer 1)
+    ∷ Some (fault.Damaged (damage.File 0 1)) ∷ Some fault.Memory ∷ Some (fault.Full 2 1) ∷ Some (fault.Foreign foreign.Version) ∷ [])
+    ≡ 0 ∷ 2 ∷ 3 ∷ 4 ∷ 6 ∷ 7 ∷ 8 ∷ 9 ∷ 10 ∷ 11 ∷ []
 statuses = refl
+
+-- of these faults, those that may end a life
+end_lives : map ends_life
+    (None ∷ Some fault.Words ∷ Some (fault.Script 1 kind.Head) ∷ Some (fault.Read 1) ∷ Some (fault.Device 1) ∷ Some (fault.Peer 1)
+    ∷ Some (fault.Damaged (damage.File 0 1)) ∷ Some fault.Memory ∷ Some (fault.Full 2 1) ∷ Some (fault.Foreign foreign.Version) ∷ [])
+    ≡ false ∷ false ∷ false ∷ false ∷ true ∷ true ∷ false ∷ true ∷ true ∷ false ∷ []
+end_lives = refl
 
 -- a life that is missing, or a fault, beside status 0; and a fault with the status of another
 misses_a_life : IsDemanded script fresh_opening 0 None (life_with whole [] ending.Closed ∷ []) → ⊥

@@ -1,9 +1,9 @@
 -- Worked lives, traces and states, computed from the definitions alone.
-use Rattle.std.proofs.Common.{◌≡◌, ℕ, true, false, List, [], ◌∷◌, Some, None, map, refl}
+use Rattle.std.proofs.Common.{◌≡◌, ℕ, pos, true, false, List, [], ◌∷◌, Some, None, map, refl}
 use Rattle.std.specs.List.{list_any}
-use Rattle.st_fold.specs.declared.batch.Batch.{Batch}
-use Rattle.st_fold.specs.declared.batch.Move.TheVariants.{Assign, Release}
-use Rattle.st_fold.specs.declared.batch.Mutation.TheVariants.{Set}
+use Rattle.st_mutation.specs.declared.batch.Batch.{Batch}
+use Rattle.st_mutation.specs.declared.batch.Move.TheVariants.{Assign, Release}
+use Rattle.st_mutation.specs.declared.batch.Mutation.TheVariants.{Set, Clear}
 use Rattle.st_fold.specs.declared.plan.Act.TheVariants.{Apply}
 use Rattle.st_fold.specs.declared.plan.Do.{Do}
 use Rattle.st_fold.specs.declared.plan.Do.TheVariants as step_of
@@ -11,20 +11,25 @@ use Rattle.st_fold.specs.declared.plan.LifePlan.{LifePlan}
 use Rattle.st_fold.specs.declared.plan.Settings.{Settings}
 use Rattle.st_fold.specs.declared.report.Ending.TheVariants as ending
 use Rattle.st_fold.specs.declared.report.Event.TheVariants.{Opened, Applied, Closed, Killed}
+use Rattle.st_fold.specs.declared.report.Answered.{Answered}
+use Rattle.st_fold.specs.declared.request.Answer.{Answer}
 use Rattle.st_fold.specs.declared.request.Answer.TheVariants.{Value, Absent, FutureVersion, Stopped}
-use Rattle.st_fold.specs.declared.request.Ask.TheVariants.{Get}
+use Rattle.st_fold.specs.declared.request.Answer.TheVariants as answer
+use Rattle.st_fold.specs.declared.request.Ask.{Ask}
+use Rattle.st_fold.specs.declared.request.Ask.TheVariants.{Get, Rows, Select}
+use Rattle.st_fold.specs.declared.request.Found.TheVariants as to
 use Rattle.st_fold.specs.declared.request.Request.{Request}
 use Rattle.st_key.specs.Spans.{Span}
 use Rattle.st_model.specs.declared.piece.Piece.{Piece}
 use Rattle.st_model.specs.declared.piece.Phase.TheVariants as phase
-use Rattle.st_model.specs.Pieces.{all_keys, move_piece}
+use Rattle.st_model.specs.Pieces.{all_keys, move_piece, wants_block}
 use Rattle.st_model.specs.Plain.{fresh_opening, plain_state}
 use Rattle.st_model.specs.Reply.{first_unreadable, reply, too_old, not_yet, wrong_shard, found}
 use Rattle.st_model.specs.Report.{requests_of}
 use Rattle.st_model.specs.Schedule.{first_run, life_of, play, poll_out, polled}
 use Rattle.st_model.specs.Session.{Outcome, open_yet, over, never, outcome}
 use Rattle.st_model.specs.State.{Given, Opening, State, after_batch, assigned, first_state}
-use Rattle.st_model.specs.Trace.{commit_due, commit_version, is_at_rest, state_after, state_at, wants_block}
+use Rattle.st_model.specs.Trace.{commit_due, commit_version, is_at_rest, state_after, state_at}
 
 -- ---- scripts. The keys a and b are 97 and 98, the values 1 and 2 are 49 and 50
 
@@ -141,6 +146,74 @@ stopped : life_of fresh_opening
       ending = ending.Faulted;
     }
 stopped = refl
+
+-- the requests of the end are polled when the life is at rest and the readers have their answers, as often as `patience`
+-- says; a reader that is told to poll before does nothing for them
+lasts_wait : play (given_to 2 (set 1 97 49 ∷ set 2 97 50 ∷ [])) fresh_opening
+    (record (life_to 2 (asking 2 1 97 1 ∷ asking 4 2 97 3 ∷ []) (apply ∷ poll 1 ∷ (step_of.Poll 2, 2) ∷ []))
+    { lasts = asking 1 0 97 2 ∷ asking 3 0 97 3 ∷ asking 5 0 98 0 ∷ [] })
+    ≡ record {
+      opened = 0;
+      trace = Opened 0 ∷ Applied 1 ∷ Applied 2 ∷ Closed ∷ [];
+      answers =
+          record { request = 1; places = 3 ∷ []; answer = Value (50 ∷ []) }
+          ∷ record { request = 2; places = 2 ∷ []; answer = Value (49 ∷ []) }
+          ∷ record { request = 3; places = 3 ∷ 3 ∷ 3 ∷ []; answer = FutureVersion 2 3 }
+          ∷ record { request = 4; places = 2 ∷ 2 ∷ 3 ∷ []; answer = FutureVersion 2 3 }
+          ∷ record { request = 5; places = 3 ∷ []; answer = Absent } ∷ [];
+      ending = ending.Closed;
+    }
+unfolding poll_out
+lasts_wait = refl
+
+-- the keys a, b and c get the values 1, 2 and 3; those from a up to c are cleared; b gets the value 9
+abbrev clears : Given
+clears = given_to 3 (
+    record { version = 1; moves = []; mutations = Set (97 ∷ []) (49 ∷ []) ∷ Set (98 ∷ []) (50 ∷ []) ∷ Set (99 ∷ []) (51 ∷ []) ∷ [] }
+    ∷ record { version = 2; moves = []; mutations = Clear (record { begin = 97 ∷ []; end = 99 ∷ [] }) ∷ [] }
+    ∷ set 3 98 57 ∷ [])
+
+abbrev asking_this : ℕ → Ask → Request
+asking_this number ask = record { number = number; reader = 1; ask = ask }
+
+abbrev answered_there : ℕ → Answer → Answered
+answered_there number answer = record { request = number; places = 4 ∷ []; answer = answer }
+
+abbrev a_to_c : Span
+a_to_c = record { begin = 97 ∷ []; end = 100 ∷ [] }
+
+-- rows both ways: the byte limit, of 2, is met by the first row, of 2 bytes; one of 3 bytes lets a second row in; of
+-- three rows that are wanted all come; and one row of two is wanted, from the last key on
+ranges : play clears fresh_opening (life_to 3 (
+    asking_this 1 (Rows a_to_c 10 2 false 1) ∷ asking_this 2 (Rows a_to_c 10 3 true 1)
+    ∷ asking_this 3 (Rows a_to_c 3 1000 false 1) ∷ asking_this 4 (Rows all_keys 1 1000 true 3) ∷ []) [])
+    ≡ record {
+      opened = 0;
+      trace = Opened 0 ∷ Applied 1 ∷ Applied 2 ∷ Applied 3 ∷ Closed ∷ [];
+      answers =
+          answered_there 1 (answer.Rows ((97 ∷ [], 49 ∷ []) ∷ []) true)
+          ∷ answered_there 2 (answer.Rows ((99 ∷ [], 51 ∷ []) ∷ (98 ∷ [], 50 ∷ []) ∷ []) true)
+          ∷ answered_there 3 (answer.Rows ((97 ∷ [], 49 ∷ []) ∷ (98 ∷ [], 50 ∷ []) ∷ (99 ∷ [], 51 ∷ []) ∷ []) false)
+          ∷ answered_there 4 (answer.Rows ((99 ∷ [], 51 ∷ []) ∷ []) true) ∷ [];
+      ending = ending.Closed;
+    }
+unfolding poll_out
+ranges = refl
+
+-- selectors: to a key, before the first and after the last
+selectors : play clears fresh_opening (life_to 3 (
+    asking_this 1 (Select (99 ∷ []) false (pos 0) all_keys 1) ∷ asking_this 2 (Select (97 ∷ []) true (pos 1) all_keys 3)
+    ∷ asking_this 3 (Select (98 ∷ []) false (pos 0) all_keys 3) ∷ asking_this 4 (Select (99 ∷ []) true (pos 1) all_keys 3) ∷ []) [])
+    ≡ record {
+      opened = 0;
+      trace = Opened 0 ∷ Applied 1 ∷ Applied 2 ∷ Applied 3 ∷ Closed ∷ [];
+      answers =
+          answered_there 1 (answer.KeyIs (to.Key (98 ∷ []))) ∷ answered_there 2 (answer.KeyIs (to.Key (98 ∷ [])))
+          ∷ answered_there 3 (answer.KeyIs to.Before) ∷ answered_there 4 (answer.KeyIs to.After) ∷ [];
+      ending = ending.Closed;
+    }
+unfolding poll_out
+selectors = refl
 
 -- the requests of the end stand among the others by their numbers
 in_order : requests_of (record (life_to 0 (asking 1 1 97 0 ∷ asking 3 2 97 0 ∷ []) []) { lasts = asking 2 0 97 0 ∷ asking 4 0 97 0 ∷ [] })

@@ -4,24 +4,25 @@ use Rattle.std.proofs.lemmas.Bool.{cond_both, cond-true, cond-false, or_from, ca
 use Rattle.std.proofs.lemmas.List.Folds.{list_any-append}
 use Rattle.std.specs.List.{AllByRecursion, list_any, fold}
 use Rattle.st_fold.specs.Plain.{IsPlainBatch}
-use Rattle.st_fold.specs.declared.batch.Batch.{Batch}
+use Rattle.st_mutation.specs.declared.batch.Batch.{Batch}
 use Rattle.st_fold.specs.declared.plan.Act.{Act}
 use Rattle.st_fold.specs.declared.plan.Act.TheVariants as act
 use Rattle.st_fold.specs.declared.plan.LifePlan.{LifePlan}
 use Rattle.st_fold.specs.declared.report.Event.{Event}
 use Rattle.st_fold.specs.declared.report.Event.TheVariants.{Applied}
 use Rattle.st_fold.specs.declared.request.Request.{Request}
-use Rattle.st_model.specs.Pieces.{all_keys, first_pieces, move_piece}
-use Rattle.st_model.specs.State.{Given, State, next_batch, apply_next, after_batch, assigned, first_state, inject, move_span, step}
+use Rattle.st_model.specs.Pieces.{all_keys, first_pieces, inject, move_piece}
+use Rattle.st_model.specs.State.{Given, State, next_batch, apply_next, after_batch, assigned, first_state, move_span, step}
 use Rattle.st_model.specs.Trace.{is_end, state_after}
 use Rattle.st_model.specs.Session.{NeverFalls}
+use Rattle.st_model.specs.Report.{requests_of}
 use Rattle.st_model.specs.Schedule.{Session, Run, repeat, poll, poll_first, is_open, polled, poll_through, acted, add_event, event_of, first_run}
 use Rattle.st_model.specs.Plain.{IsPlain, IsSound, IsSoundSession, IsSplit, TakeTurns, fresh_opening, plain_state, first_to, polls_of, polls_left, outcome_of}
-use Rattle.st_model.proofs.Lists.{all_map, all_right}
+use Rattle.st_model.proofs.Lists.{all_append, all_map, all_right}
 use Rattle.st_model.proofs.Batches.{none_to, next_is, first_is, split_on}
 use Rattle.st_model.proofs.Traces.{state_after_push, outcome_grows}
 use Rattle.st_model.proofs.Polls.{open_is, patient_yet, sessions_sound, same_requests, same_length}
-use Rattle.st_model.proofs.Turns.{falls_push, all_polls, polls_grow, turns_kept, open_apart, idle}
+use Rattle.st_model.proofs.Turns.{falls_push, all_polls, polls_grow, polls_other, turns_kept, open_apart, idle}
 
 -- ---- the beginning
 
@@ -37,7 +38,7 @@ begin_requests : (asks : List Request) → map (λ (session : Session). session.
 begin_requests [] = refl
 begin_requests (ask ∷ asks) = ap (λ later. ask ∷ later) (begin_requests asks)
 
-begin_polls : (reader : ℕ) (asks : List Request) → polls_of reader (map not_asked asks) ≡ []
+pub begin_polls : (reader : ℕ) (asks : List Request) → polls_of reader (map not_asked asks) ≡ []
 begin_polls reader [] = refl
 begin_polls reader (ask ∷ asks) =
     cond_both (ask.reader == reader) (polls_of reader (map not_asked asks)) (polls_of reader (map not_asked asks)) (λ polls. polls ≡ [])
@@ -54,15 +55,15 @@ begin_state given plain =
     ∙ plain.own in
     ap (λ spans. record (plain_state 0) { pieces = first_pieces 0 (all_keys ∷ []) spans }) own
 
-pub begins : (given : Given) (plan : LifePlan) → IsPlain given → IsSound given plan.asks 0 (first_run fresh_opening plan)
+pub begins : (given : Given) (plan : LifePlan) → IsPlain given → IsSound given (requests_of plan) 0 (first_run fresh_opening plan)
 begins given plan plain = record {
   state = ap (λ (s : State). Some s) (begin_state given plain);
   kept = zero-le;
   going_on = refl;
-  requests = begin_requests plan.asks;
-  sessions = begin_sessions given (first_run fresh_opening plan) plan.asks;
-  in_order = λ reader. subst NeverFalls (sym (begin_polls reader plan.asks)) tt;
-  turns = begin_turns plan.asks;
+  requests = begin_requests (requests_of plan);
+  sessions = begin_sessions given (first_run fresh_opening plan) (requests_of plan);
+  in_order = λ reader. subst NeverFalls (sym (begin_polls reader (requests_of plan))) tt;
+  turns = begin_turns (requests_of plan);
 }
 
 -- ---- acts
@@ -70,6 +71,20 @@ begins given plan plain = record {
 pub in_any_state : (given : Given) (action : Act) (run : Run) (state : State) → state_after given fresh_opening run.trace ≡ Some state
     → acted given fresh_opening action run ≡ add_event run (event_of given state action)
 in_any_state given action run state e = rw e refl
+
+-- an act polls nothing
+pub acts_apart : (given : Given) (action : Act) (run : Run) → (acted given fresh_opening action run).sessions ≡ run.sessions
+acts_apart given action run = in_state (state_after given fresh_opening run.trace) refl
+  where
+    event_apart : (o : Option Event) → (add_event run o).sessions ≡ run.sessions
+    event_apart None = refl
+    event_apart (Some event) = refl
+
+    in_state : (o : Option State) → state_after given fresh_opening run.trace ≡ o
+        → (acted given fresh_opening action run).sessions ≡ run.sessions
+    in_state None e = rw e refl
+    in_state (Some state) e =
+        ap (λ (r : Run). r.sessions) (in_any_state given action run state e) ∙ event_apart (event_of given state action)
 
 -- a session that was sound stays so, however the trace goes on
 grown : (given : Given) (run : Run) (event : Event) (session : Session) → IsSoundSession given run session
@@ -179,6 +194,32 @@ apart given reader other run differ = in_state (state_after given fresh_opening 
     in_state (Some state) e =
         ap (λ (r : Run). list_any (is_open other) r.sessions) (polled_is given reader run state e)
         ∙ open_apart given reader (length run.trace) state other differ run.sessions
+
+-- the polls of another reader stay
+pub polls_apart : (given : Given) (reader other : ℕ) (run : Run) → other ≢ reader
+    → polls_of other (polled given fresh_opening reader run).sessions ≡ polls_of other run.sessions
+polls_apart given reader other run differ = in_state (state_after given fresh_opening run.trace) refl
+  where
+    in_state : (o : Option State) → state_after given fresh_opening run.trace ≡ o
+        → polls_of other (polled given fresh_opening reader run).sessions ≡ polls_of other run.sessions
+    in_state None e = rw e refl
+    in_state (Some state) e =
+        ap (λ (r : Run). polls_of other r.sessions) (polled_is given reader run state e)
+        ∙ polls_other given reader (length run.trace) state other run.sessions differ
+
+-- where a reader was polled at the end of the trace alone, one more poll is made there
+pub polls_at_end : (given : Given) (asks : List Request) (newest reader : ℕ) (run : Run) → IsSound given asks newest run
+    → AllByRecursion (λ place. place ≡ length run.trace) (polls_of reader run.sessions)
+    → AllByRecursion (λ place. place ≡ length (polled given fresh_opening reader run).trace)
+    (polls_of reader (polled given fresh_opening reader run).sessions)
+polls_at_end given asks newest reader run sound at_end =
+    subst (λ (r : Run). AllByRecursion (λ place. place ≡ length r.trace) (polls_of reader r.sessions))
+    (sym (polled_is given reader run (plain_state newest) sound.state))
+    (elim (polls_grow given reader (length run.trace) (plain_state newest) reader run.sessions sound.turns) [
+      | inl same ↦ subst (AllByRecursion (λ place. place ≡ length run.trace)) (sym same) at_end
+      | inr more ↦ subst (AllByRecursion (λ place. place ≡ length run.trace)) (sym more)
+          (all_append (λ place. place ≡ length run.trace) (polls_of reader run.sessions) (length run.trace ∷ []) at_end (refl, tt))
+    ])
 
 -- ---- polling on
 

@@ -39,7 +39,7 @@ goes_on given state (first ∷ events) event none =
     (and_left (is_end first) (nat_lt 0 (length events)) ends.0)))
 
 -- a legal trace begins with its opening
-opens : (given : Given) (opening : Opening) (trace : List Event) (state : State) → state_after given opening trace ≡ Some state
+pub opens : (given : Given) (opening : Opening) (trace : List Event) (state : State) → state_after given opening trace ≡ Some state
     → (events : List Event) × (trace ≡ Opened opening.version ∷ events) × (run_events given (first_state given opening) events ≡ Some state)
 opens given opening [] state h = cc
 opens given opening (Opened version ∷ events) state h =

@@ -1,10 +1,13 @@
 pub use Rattle.st_fold.specs.Map
 pub use Rattle.st_fold.specs.Reading
 pub mod Pieces
+pub mod Partition
 pub mod State
 pub mod Trace
 pub mod Reply
 pub mod Session
+pub mod Watching
+pub mod Facts
 pub mod Report
 pub mod Schedule
 pub mod Plain

@@ -1,11 +1,12 @@
 -- The keys below ff in pieces: cut by moves, and never merged.
-use Rattle.std.specs.Prelude.{ℕ, Bool, true, false, not, ◌&&◌, List, [], ◌∷◌, ◌++◌, map, if◌then◌else◌}
-use Rattle.std.specs.List.{flat_map, fold}
-use Rattle.st_key.specs.Spans.{Span, key_less, holds}
+use Rattle.std.specs.Prelude.{ℕ, Bool, true, false, not, ◌&&◌, nat_le, bytes_eq, List, [], ◌∷◌, ◌++◌, map, Option, if◌then◌else◌}
+use Rattle.std.specs.List.{flat_map, fold, find, list_any}
+use Rattle.std.specs.Option.{option_map_or}
+use Rattle.st_key.specs.Spans.{Span, key_less, within, holds}
 pub use Rattle.st_key.specs.Spans.{all_keys}
 use Rattle.st_key.specs.Parts.{least, greatest}
-use Rattle.st_fold.specs.declared.batch.Move.{Move}
-use Rattle.st_fold.specs.declared.batch.Move.TheVariants.{Assign, Release}
+use Rattle.st_mutation.specs.declared.batch.Move.{Move}
+use Rattle.st_mutation.specs.declared.batch.Move.TheVariants.{Assign, Release}
 use Rattle.st_model.specs.declared.piece.Piece.{Piece}
 use Rattle.st_model.specs.declared.piece.Phase.{Phase}
 use Rattle.st_model.specs.declared.piece.Phase.TheVariants.{Absent, WaitPrevious, Fetching, Waiting, Readable}
@@ -26,6 +27,10 @@ is_readable (WaitPrevious since) = false
 is_readable (Fetching at upto taken in_base) = false
 is_readable (Waiting transferred) = false
 is_readable Readable = true
+
+-- the key lies in a readable piece
+abbrev pub serves : List Piece → List ℕ → Bool
+serves pieces key = list_any (λ piece. is_readable piece.phase && within (span_of piece) key) pieces
 
 -- the nearest key between two ends, both included
 abbrev pub nearest : Span → List ℕ → List ℕ
@@ -101,3 +106,142 @@ abbrev pub first_pieces : ℕ → List Span → List Span → List Piece
 first_pieces version available assigned =
     map (λ span. record { begin = span.begin; end = span.end; phase = first_phase version (holds available span.begin) (holds assigned span.begin) })
     (cut_keys (available ++ assigned))
+
+-- the piece that begins at a key
+abbrev pub piece_from : List ℕ → List Piece → Option Piece
+piece_from begin pieces = find (λ piece. bytes_eq piece.begin begin) pieces
+
+-- whether a piece begins at the key, and passes the test
+abbrev pub begins : (Piece → Bool) → List ℕ → List Piece → Bool
+begins test begin pieces = option_map_or test (piece_from begin pieces) false
+
+-- these come in place of the piece that begins at the key
+abbrev pub change_at : List ℕ → (Piece → List Piece) → List Piece → List Piece
+change_at begin change pieces = flat_map (λ piece. if bytes_eq piece.begin begin then change piece else piece ∷ []) pieces
+
+-- the piece with another phase
+abbrev pub in_phase : Phase → Piece → Piece
+in_phase phase piece = record { begin = piece.begin; end = piece.end; phase = phase }
+
+-- the phase passes through the change, and the keys stay
+abbrev pub by_phase : (Phase → Phase) → List Piece → List Piece
+by_phase change pieces = map (λ piece. in_phase (change piece.phase) piece) pieces
+
+-- the piece may be fetched: what took it away is durable
+abbrev pub wants_fetch : ℕ → Piece → Bool
+wants_fetch durable piece = waits_no_longer piece.phase
+  where
+    waits_no_longer : Phase → Bool
+    waits_no_longer (WaitPrevious since) = nat_le since durable
+    waits_no_longer (Absent since) = false
+    waits_no_longer (Fetching at upto taken in_base) = false
+    waits_no_longer (Waiting transferred) = false
+    waits_no_longer Readable = false
+
+-- a fetch starts: nothing of the piece is fetched yet
+abbrev pub start_piece : ℕ → Piece → Piece
+start_piece at piece = in_phase (Fetching at piece.begin piece.begin piece.begin) piece
+
+-- the piece has keys that are still to be fetched
+abbrev pub wants_block : Piece → Bool
+wants_block piece = ends_early piece.phase
+  where
+    ends_early : Phase → Bool
+    ends_early (Fetching at upto taken in_base) = key_less upto piece.end
+    ends_early (Absent since) = false
+    ends_early (WaitPrevious since) = false
+    ends_early (Waiting transferred) = false
+    ends_early Readable = false
+
+-- the key may be how far the piece is fetched next: above how far it is, and not above its end
+abbrev pub takes_block : List ℕ → Piece → Bool
+takes_block key piece = lies_ahead piece.phase
+  where
+    lies_ahead : Phase → Bool
+    lies_ahead (Fetching at upto taken in_base) = key_less upto key && not (key_less piece.end key)
+    lies_ahead (Absent since) = false
+    lies_ahead (WaitPrevious since) = false
+    lies_ahead (Waiting transferred) = false
+    lies_ahead Readable = false
+
+-- a block came: the piece is fetched up to the key
+abbrev pub fetched_to : List ℕ → Phase → Phase
+fetched_to key (Fetching at upto taken in_base) = Fetching at key taken in_base
+fetched_to key (Absent since) = Absent since
+fetched_to key (WaitPrevious since) = WaitPrevious since
+fetched_to key (Waiting transferred) = Waiting transferred
+fetched_to key Readable = Readable
+
+abbrev pub block_piece : List ℕ → Piece → Piece
+block_piece key piece = in_phase (fetched_to key piece.phase) piece
+
+-- the piece is fetched up to this key, which is below its end
+abbrev pub stops_at : List ℕ → Piece → Bool
+stops_at key piece = stops piece.phase
+  where
+    stops : Phase → Bool
+    stops (Fetching at upto taken in_base) = bytes_eq upto key && key_less upto piece.end
+    stops (Absent since) = false
+    stops (WaitPrevious since) = false
+    stops (Waiting transferred) = false
+    stops Readable = false
+
+-- what isn't fetched of the piece waits to be fetched anew, and what is keeps its phase
+abbrev pub split_piece : (durable : ℕ) → List ℕ → Piece → List Piece
+split_piece durable key piece =
+    if bytes_eq key piece.begin then in_phase (WaitPrevious durable) piece ∷ []
+    else record { begin = piece.begin; end = key; phase = piece.phase } ∷ record { begin = key; end = piece.end; phase = WaitPrevious durable } ∷ []
+
+-- rows of the piece were fetched that aren't in the base
+abbrev pub has_rows : Piece → Bool
+has_rows piece = lie_outside piece.phase
+  where
+    lie_outside : Phase → Bool
+    lie_outside (Fetching at upto taken in_base) = key_less in_base upto
+    lie_outside (Absent since) = false
+    lie_outside (WaitPrevious since) = false
+    lie_outside (Waiting transferred) = false
+    lie_outside Readable = false
+
+-- a commit begins: it takes the rows that were fetched
+abbrev pub rows_taken : Phase → Phase
+rows_taken (Fetching at upto taken in_base) = Fetching at upto upto in_base
+rows_taken (Absent since) = Absent since
+rows_taken (WaitPrevious since) = WaitPrevious since
+rows_taken (Waiting transferred) = Waiting transferred
+rows_taken Readable = Readable
+
+-- the piece was sent to the versioned map at this version or below it
+abbrev pub waits_to : ℕ → Piece → Bool
+waits_to version piece = was_sent piece.phase
+  where
+    was_sent : Phase → Bool
+    was_sent (Waiting transferred) = nat_le transferred version
+    was_sent (Absent since) = false
+    was_sent (WaitPrevious since) = false
+    was_sent (Fetching at upto taken in_base) = false
+    was_sent Readable = false
+
+-- a commit of this version is durable: the rows that it took are in the base, and what was sent to the versioned map
+-- at this version or below it is readable
+abbrev pub rows_in_base : ℕ → Phase → Phase
+rows_in_base durable (Fetching at upto taken in_base) = Fetching at upto taken taken
+rows_in_base durable (Waiting transferred) = if nat_le transferred durable then Readable else Waiting transferred
+rows_in_base durable (Absent since) = Absent since
+rows_in_base durable (WaitPrevious since) = WaitPrevious since
+rows_in_base durable Readable = Readable
+
+-- the piece was fetched whole, and all of it is in the base
+abbrev pub is_whole : Piece → Bool
+is_whole piece = ends_in_base piece.phase
+  where
+    ends_in_base : Phase → Bool
+    ends_in_base (Fetching at upto taken in_base) = bytes_eq in_base piece.end && bytes_eq upto piece.end
+    ends_in_base (Absent since) = false
+    ends_in_base (WaitPrevious since) = false
+    ends_in_base (Waiting transferred) = false
+    ends_in_base Readable = false
+
+-- a whole piece is sent to the versioned map at this version
+abbrev pub inject : ℕ → Piece → Piece
+inject version piece = if is_whole piece then in_phase (Waiting version) piece else piece

@@ -4,7 +4,7 @@ use Rattle.std.specs.List.{find}
 use Rattle.std.specs.Option.{option_map}
 use Rattle.st_key.specs.Spans.{Span, key_less}
 use Rattle.st_key.specs.Parts.{greatest}
-use Rattle.st_fold.specs.declared.batch.Batch.{Batch}
+use Rattle.st_mutation.specs.declared.batch.Batch.{Batch}
 use Rattle.st_fold.specs.declared.request.Ask.{Ask}
 use Rattle.st_fold.specs.declared.request.Answer.{Answer}
 use Rattle.st_fold.specs.Map.{folded}

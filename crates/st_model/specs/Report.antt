@@ -1,6 +1,6 @@
 -- The report that a script demands.
-use Rattle.std.specs.Prelude.{◌≡◌, ◌≢◌, ℕ, Bool, true, false, ◌==◌, nat_lt, List, [], ◌∷◌, ◌++◌, length, fold, All, ◌⊎◌, Option, Some, None, IsTrue, IsSome, if◌then◌else◌}
-use Rattle.std.specs.List.{list_any}
+use Rattle.std.specs.Prelude.{◌≡◌, ◌≢◌, ℕ, Bool, true, false, ◌==◌, nat_lt, List, [], ◌∷◌, ◌++◌, take, drop, length, All, ◌⊎◌, Option, Some, None, IsTrue, IsSome, if◌then◌else◌}
+use Rattle.std.specs.List.{list_any, prefix_len}
 use Rattle.st_fold.specs.declared.plan.LifePlan.{LifePlan}
 use Rattle.st_fold.specs.declared.plan.Script.{Script}
 use Rattle.st_fold.specs.declared.report.Answered.{Answered}
@@ -21,15 +21,20 @@ use Rattle.st_model.specs.Session.{outcome, Answers, NeverFalls}
 abbrev pub given_by : Script → LifePlan → Given
 given_by script plan = record { log = script.log; upto = plan.upto; own = script.own; settings = script.settings }
 
--- a request put into its place in the order of numbers
-abbrev pub place_request : List Request → Request → List Request
-place_request [] request = request ∷ []
-place_request (other ∷ others) request =
-    if nat_lt request.number other.number then request ∷ other ∷ others else other ∷ place_request others request
+-- how many of these requests, from the front on, have numbers below this one
+abbrev pub count_before : ℕ → List Request → ℕ
+count_before number requests = prefix_len (λ request. nat_lt request.number number) requests
+
+-- two lists of requests, each in order of numbers, as one in that order
+abbrev pub merged : List Request → List Request → List Request
+merged [] others = others
+merged (request ∷ requests) others =
+    take (count_before request.number others) others
+    ++ request ∷ merged requests (drop (count_before request.number others) others)
 
 -- all requests of a life, in order of their numbers
 abbrev pub requests_of : LifePlan → List Request
-requests_of plan = fold place_request plan.asks plan.lasts
+requests_of plan = merged plan.asks plan.lasts
 
 abbrev pub is_faulted : Ending → Bool
 is_faulted ending.Closed = false
@@ -100,7 +105,12 @@ status_of None = 0
 status_of (Some fault.Words) = 2
 status_of (Some (fault.Script line kind)) = 3
 status_of (Some (fault.Read faults)) = 4
+status_of (Some (fault.Device faults)) = 6
+status_of (Some (fault.Peer faults)) = 7
+status_of (Some (fault.Damaged damage)) = 8
 status_of (Some fault.Memory) = 9
+status_of (Some (fault.Full size limit)) = 10
+status_of (Some (fault.Foreign part)) = 11
 
 -- the faults that may end a life
 abbrev pub ends_life : Option Fault → Bool
@@ -108,7 +118,12 @@ ends_life None = false
 ends_life (Some fault.Words) = false
 ends_life (Some (fault.Script line kind)) = false
 ends_life (Some (fault.Read faults)) = false
+ends_life (Some (fault.Device faults)) = true
+ends_life (Some (fault.Peer faults)) = true
+ends_life (Some (fault.Damaged damage)) = false
 ends_life (Some fault.Memory) = true
+ends_life (Some (fault.Full size limit)) = true
+ends_life (Some (fault.Foreign part)) = false
 
 -- a report of these lives, with this status and fault, is one that the script demands of a store that opens so
 pub record IsDemanded (script : Script) (opening : Opening) (status : ℕ) (why : Option Fault) (lives : List Life) : Type 0 where

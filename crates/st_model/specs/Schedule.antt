@@ -20,6 +20,7 @@ use Rattle.st_model.specs.State.{Given, Opening, State, next_batch}
 use Rattle.st_model.specs.Trace.{state_after}
 use Rattle.st_model.specs.Reply.{reply}
 use Rattle.st_model.specs.Session.{answer_to}
+use Rattle.st_model.specs.Report.{requests_of}
 
 -- a request, the places of its polls so far, and its answer once it has one
 pub record Session : Type 0 where
@@ -96,11 +97,11 @@ do_line given opening run line = repeat line.1 (do_once given opening line.0) ru
 abbrev pub poll_through : Given → Opening → ℕ → Run → Run
 poll_through given opening reader run = repeat (given.settings.patience * length run.sessions) (polled given opening reader) run
 
--- the readers do so one after the other, in order of their numbers
+-- the readers do so one after the other, in order of their numbers, and then the requests of the life's end are polled so
 unfoldable pub poll_out : Given → Opening → Run → Run
-poll_out given opening run = fold (λ so_far reader. poll_through given opening reader so_far) run (range_with_len 1 64)
+poll_out given opening run = fold (λ so_far reader. poll_through given opening reader so_far) run (range_with_len 1 64 ++ 0 ∷ [])
 
--- the life goes on until it is at rest, and then its readers poll until they are answered
+-- the life goes on until it is at rest, and then its requests are polled until they are answered
 abbrev pub closing : Given → Opening → Run → Run
 closing given opening run = poll_out given opening (repeat (length given.log) (acted given opening act.Apply) run)
 
@@ -108,7 +109,7 @@ closing given opening run = poll_out given opening (repeat (length given.log) (a
 abbrev pub first_run : Opening → LifePlan → Run
 first_run opening plan = record {
   trace = Opened opening.version ∷ [];
-  sessions = map (λ request. record { request = request; places = []; answer = None }) plan.asks;
+  sessions = map (λ request. record { request = request; places = []; answer = None }) (requests_of plan);
 }
 
 -- the schedule as it is written, and then the closing

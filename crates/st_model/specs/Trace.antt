@@ -1,14 +1,15 @@
 -- Legal traces, the state at a place of one, and when nothing is left to do.
-use Rattle.std.specs.Prelude.{ℕ, ◌-◌, Bool, true, false, not, ◌&&◌, ◌||◌, ◌==◌, nat_lt, nat_le, List, [], ◌∷◌, take, length, Option, Some, None, is_none, option_and_then, if◌then◌else◌}
-use Rattle.std.specs.List.{list_any}
-use Rattle.st_key.specs.Spans.{key_less}
-use Rattle.st_fold.specs.declared.batch.Batch.{Batch}
+use Rattle.std.specs.Prelude.{◌≡◌, ℕ, Bool, true, false, not, ◌&&◌, ◌==◌, nat_lt, nat_le, List, [], ◌∷◌, take, length, Option, Some, None, is_none, IsTrue, option_and_then, if◌then◌else◌}
+use Rattle.std.specs.List.{find, list_any}
+use Rattle.std.specs.Option.{option_map}
+use Rattle.st_fold.specs.declared.plan.Act.{Act}
+use Rattle.st_fold.specs.declared.plan.Act.TheVariants as act
 use Rattle.st_fold.specs.declared.report.Event.{Event}
 use Rattle.st_fold.specs.declared.report.Event.TheVariants.{Opened, Applied, FetchStart, Block, Split, Began, Durable, Watched, Unwatched, Closed, Killed}
 use Rattle.st_model.specs.declared.piece.Piece.{Piece}
-use Rattle.st_model.specs.declared.piece.Phase.{Phase}
-use Rattle.st_model.specs.declared.piece.Phase.TheVariants.{Absent, WaitPrevious, Fetching, Waiting, Readable}
+use Rattle.st_model.specs.Pieces.{stops_at, takes_block, wants_block, wants_fetch}
 use Rattle.st_model.specs.State.{Given, Opening, State, first_state, next_batch, step}
+pub use Rattle.st_model.specs.State.{greatest_to, commit_version, commit_due}
 
 -- whether an event ends a life
 abbrev pub is_end : Event → Bool
@@ -52,53 +53,49 @@ abbrev pub state_at : Given → Opening → List Event → ℕ → Option State
 state_at given opening trace place =
     if nat_le place (length trace) then state_after given opening (take place trace) else None
 
--- the greatest version up to a bound, of these batches and a first one
-abbrev pub greatest_to : (bound first : ℕ) → List Batch → ℕ
-greatest_to bound first [] = first
-greatest_to bound first (batch ∷ batches) =
-    greatest_to bound (if nat_lt first batch.version && nat_le batch.version bound then batch.version else first) batches
+-- the event that an act makes in a state, where the state lets it. An act that takes the next piece takes the first in
+-- key order. What comes of a piece of which a block is asked for depends on its source
+abbrev pub event_by : Given → State → (Piece → Event) → Act → Option Event
+event_by given state fetched act.Apply = option_map (λ batch. Applied batch.version) (next_batch given state)
+event_by given state fetched act.Start =
+    option_map (λ piece. FetchStart piece.begin state.newest) (find (wants_fetch state.durable) state.pieces)
+event_by given state fetched act.Block = option_map fetched (find wants_block state.pieces)
+event_by given state fetched act.Began =
+    if commit_due given state then Some (Began (commit_version given state)) else None
+event_by given state fetched act.Durable = option_map (λ flight. Durable flight.version) state.flight
 
--- the version that a commit would begin with: that of the greatest batch that the window lets go, or the durable one
-abbrev pub commit_version : Given → State → ℕ
-commit_version given state = greatest_to (state.newest - given.settings.window) state.durable given.log
+-- what may come of a piece of which a block is asked for: a block, or a split where its source has forgotten it
+abbrev pub IsFetchOf : Piece → Event → Type 0
+IsFetchOf piece (Opened version) = ⊥
+IsFetchOf piece (Applied version) = ⊥
+IsFetchOf piece (FetchStart begin at) = ⊥
+IsFetchOf piece (Block begin upto) = (begin ≡ piece.begin) × IsTrue (takes_block upto piece)
+IsFetchOf piece (Split begin key) = (begin ≡ piece.begin) × IsTrue (stops_at key piece)
+IsFetchOf piece (Began version) = ⊥
+IsFetchOf piece (Durable version) = ⊥
+IsFetchOf piece (Watched number key value) = ⊥
+IsFetchOf piece (Unwatched number) = ⊥
+IsFetchOf piece Closed = ⊥
+IsFetchOf piece Killed = ⊥
 
--- rows of the piece were fetched that no commit has taken
-abbrev pub has_rows : Piece → Bool
-has_rows piece = of piece.phase
-  where
-    of : Phase → Bool
-    of (Fetching at upto taken in_base) = key_less in_base upto
-    of (Absent since) = false
-    of (WaitPrevious since) = false
-    of (Waiting transferred) = false
-    of Readable = false
+-- the events that an act may make
+abbrev pub makes : Act → Event → Bool
+makes act.Apply (Applied version) = true
+makes act.Start (FetchStart begin at) = true
+makes act.Block (Block begin upto) = true
+makes act.Block (Split begin key) = true
+makes act.Began (Began version) = true
+makes act.Durable (Durable version) = true
+makes action event = false
 
--- the piece has keys that are still to be fetched
-abbrev pub wants_block : Piece → Bool
-wants_block piece = of piece.phase
-  where
-    of : Phase → Bool
-    of (Fetching at upto taken in_base) = key_less upto piece.end
-    of (Absent since) = false
-    of (WaitPrevious since) = false
-    of (Waiting transferred) = false
-    of Readable = false
-
--- the piece may be fetched, since what took it away is durable
-abbrev pub wants_fetch : ℕ → Piece → Bool
-wants_fetch durable piece = of piece.phase
-  where
-    of : Phase → Bool
-    of (WaitPrevious since) = nat_le since durable
-    of (Absent since) = false
-    of (Fetching at upto taken in_base) = false
-    of (Waiting transferred) = false
-    of Readable = false
-
--- whether a commit may begin
-abbrev pub commit_due : Given → State → Bool
-commit_due given state =
-    is_none state.flight && (nat_lt state.durable (commit_version given state) || list_any has_rows state.pieces)
+-- what is due first
+abbrev pub due : Given → State → Option Act
+due given state =
+    if not (is_none state.flight) then Some act.Durable
+    else (if commit_due given state then Some act.Began
+    else (if list_any wants_block state.pieces then Some act.Block
+    else (if list_any (wants_fetch state.durable) state.pieces then Some act.Start
+    else option_map (λ batch. act.Apply) (next_batch given state))))
 
 -- nothing is due: no commit to end or to begin, no block and no fetch, and no batch
 abbrev pub is_at_rest : Given → State → Bool

@@ -1,7 +1,7 @@
 //! Laws of the definitions.
-ghost use Rattle.std.specs.Prelude.{◌≡◌, ◌≢◌, ◌<◌, ◌≤◌, ◌++◌, ◌∷◌, ℕ, [], List, None, Some, false, map, drop, IsTrue, MatchBool, MatchOption};
+ghost use Rattle.std.specs.Prelude.{◌≡◌, ◌≢◌, ◌<◌, ◌≤◌, ◌++◌, ◌∷◌, ℕ, [], List, None, Some, false, drop, length, IsTrue, MatchBool, MatchOption};
 ghost use Rattle.std.specs.List.{AllByRecursion, list_all, list_any};
-ghost use Rattle.st_fold.specs.declared.batch.Batch.{Batch};
+ghost use Rattle.st_mutation.specs.declared.batch.Batch.{Batch};
 ghost use Rattle.st_fold.specs.declared.plan.Act.TheVariants as act;
 ghost use Rattle.st_fold.specs.declared.plan.LifePlan.{LifePlan};
 ghost use Rattle.st_fold.specs.declared.plan.Script.{Script};
@@ -11,9 +11,9 @@ ghost use Rattle.st_fold.specs.declared.report.Fault.{Fault};
 ghost use Rattle.st_fold.specs.declared.report.Fault.TheVariants as fault;
 ghost use Rattle.st_fold.specs.declared.report.Life.{Life};
 ghost use Rattle.st_fold.specs.declared.request.Request.{Request};
-ghost use Rattle.st_fold.specs.Plain.{IsOfReader, IsPlainLife};
-ghost use Rattle.st_model.specs.Plain.{IsPlain, IsSplit, IsSound, fresh_opening, plain_state, first_to, is_answered, polls_left};
-ghost use Rattle.st_model.specs.Report.{IsDemanded, IsLife, given_by, status_of};
+ghost use Rattle.st_fold.specs.Plain.{IsPlainLife};
+ghost use Rattle.st_model.specs.Plain.{IsPlain, IsSplit, IsSound, fresh_opening, plain_state, first_to, is_answered, polls_left, polls_of};
+ghost use Rattle.st_model.specs.Report.{IsDemanded, IsLife, given_by, requests_of, status_of};
 ghost use Rattle.st_model.specs.Schedule.{Run, Session, acted, polled, poll_through, first_run, is_open, life_of, play};
 ghost use Rattle.st_model.specs.State.{Given, Opening, next_batch};
 
@@ -26,7 +26,7 @@ pub fn next_is_first_left()
 /// A plain life begins soundly, at version 0.
 pub fn begins_soundly()
     ensures { (given : Given) (plan : LifePlan) → IsPlain given
-        → IsSound given plan.asks 0 (first_run fresh_opening plan) }
+        → IsSound given (requests_of plan) 0 (first_run fresh_opening plan) }
 {}
 
 /// In a plain life the act Apply applies the first batch that is left, where there is one to apply, and keeps the run
@@ -66,25 +66,27 @@ pub fn readers_are_apart()
         → list_any (is_open other) (polled given fresh_opening reader run).sessions ≡ list_any (is_open other) run.sessions }
 {}
 
-/// Each request is answered where none of the readers has an open one.
+/// Each request is answered where none of the readers has an open one, and none of the end is open.
 pub fn none_open_is_all_answered()
-    ensures { (sessions : List Session) → AllByRecursion IsOfReader (map (λ session. session.request) sessions)
-        → ((reader : ℕ) → 1 ≤ reader → reader ≤ 64 → list_any (is_open reader) sessions ≡ false)
+    ensures { (sessions : List Session) → AllByRecursion (λ session. session.request.reader ≤ 64) sessions
+        → ((reader : ℕ) → reader ≤ 64 → list_any (is_open reader) sessions ≡ false)
         → IsTrue (list_all is_answered sessions) }
 {}
 
 /// A run that was sound, cut short by a fault, is a life that the script demands.
 pub fn faulted_is_a_life()
     ensures { (given : Given) (plan : LifePlan) (newest : ℕ) (run : Run) → IsPlain given → IsPlainLife plan
-        → IsSound given plan.asks newest run
+        → IsSound given (requests_of plan) newest run
         → IsLife given fresh_opening plan (life_of fresh_opening run ending.Faulted) }
 {}
 
-/// A sound run in which no batch is left and each request is answered, closed, is a life that the script demands.
+/// A sound run in which no batch is left, each request is answered, and those of the end were polled at its end alone,
+/// closed, is a life that the script demands.
 pub fn closed_is_a_life()
     ensures { (given : Given) (plan : LifePlan) (newest : ℕ) (run : Run) → IsPlain given → IsPlainLife plan
-        → IsSound given plan.asks newest run → next_batch given (plain_state newest) ≡ None
+        → IsSound given (requests_of plan) newest run → next_batch given (plain_state newest) ≡ None
         → IsTrue (list_all is_answered run.sessions)
+        → AllByRecursion (λ place. place ≡ length run.trace) (polls_of 0 run.sessions)
         → IsLife given fresh_opening plan (life_of fresh_opening run ending.Closed) }
 {}
 

@@ -3,12 +3,27 @@
 //! laws.
 #![tactic(auto)]
 
+mod facts;
 mod laws;
+mod partition;
 mod piece;
+mod watch;
 
+pub use facts::{
+    acts_make_steps, assigned_keys_are_below_ff, assignment_is_of_each_key, openings_are_sound,
+    pieces_stay_in_order, reached_keys_are_in_their_phases, reached_states_keep_the_facts,
+    rest_is_nothing_due, traces_are_legal_to_each_place, versions_are_in_order,
+    versions_never_fall, watches_stay_within_their_limit,
+};
 pub use laws::{
     acts_soundly, begins_soundly, closed_is_a_life, closed_life_is_demanded, faulted_is_a_life,
     life_before_refused_memory_is_demanded, next_is_first_left, no_life_is_demanded,
     none_open_is_all_answered, play_is_a_life, polls_lead_on, polls_soundly, readers_are_apart,
 };
+pub use partition::{
+    cuts_part_the_keys, first_unreadable_is_least, moves_part_the_keys, one_piece_changes,
+    openings_part_the_keys, phases_change_in_place, pieces_are_found, pieces_change_at_a_place,
+    pieces_have_all_keys,
+};
 pub use piece::{Phase, Piece};
+pub use watch::WatchState;

@@ -2,7 +2,7 @@
 use st_key::Key;
 
 /// What the server does with a piece of the keys.
-#[derive(Debug, Drop)]
+#[derive(Clone, Debug, Drop, PartialEq, Eq)]
 pub enum Phase {
     /// It isn't the server's, since the version that took it away.
     Absent {
@@ -29,7 +29,7 @@ pub enum Phase {
 }
 
 /// The keys from `begin` up to, and without, `end`, and their phase.
-#[derive(Debug, Drop)]
+#[derive(Clone, Debug, Drop, PartialEq, Eq)]
 pub struct Piece {
     pub begin: Key,
     pub end: Key,

@@ -1,8 +1,8 @@
 -- The last item of a list, and what more words than a line may have change.
-use Rattle.std.proofs.Common.{◌≡◌, ℕ, ◌-◌, ◌<◌, Bool, ◌||◌, List, [], ◌∷◌, length, map, set, get_or, take, Option, Some, None, slice_get, suc, refl, sym, ap, ◌∙◌, arith}
+use Rattle.std.proofs.Common.{◌≡◌, ℕ, ◌-◌, ◌<◌, Bool, ◌||◌, List, [], ◌∷◌, length, map, find, cond, true, false, set, get_or, take, option_map, Option, Some, None, slice_get, suc, refl, sym, ap, ◌∙◌, arith}
 use Rattle.std.specs.List.{list_any}
 use Rattle.std.specs.Option.{option_map_or}
-use Rattle.st_fold.specs.declared.batch.Batch.{Batch}
+use Rattle.st_mutation.specs.declared.batch.Batch.{Batch}
 use Rattle.st_script.specs.declared.line.Form.{Form}
 use Rattle.st_script.specs.declared.line.Form.TheVariants as form
 use Rattle.st_script.specs.declared.line.Place.{Place}
@@ -14,6 +14,13 @@ use Rattle.st_script.specs.Reading.{judge, judge_known}
 pub list_any-map : {A B : Type 0} (test : B → Bool) (f : A → B) (xs : List A) → list_any (λ x. test (f x)) xs ≡ list_any test (map f xs)
 list_any-map test f [] = refl
 list_any-map test f (x ∷ xs) = ap (λ v. test (f x) || v) (list_any-map test f xs)
+
+-- what is found among the images, and then looked at
+pub find-map : {A B C : Type 0} (test : B → Bool) (f : A → B) (g : B → C) (xs : List A) → option_map (λ x. g (f x)) (find (λ x. test (f x)) xs) ≡ option_map g (find test (map f xs))
+find-map test f g [] = refl
+find-map test f g (x ∷ xs) = elim (test (f x)) as (λ v.
+    option_map (λ y. g (f y)) (cond v (Some x) (find (λ y. test (f y)) xs)) ≡ option_map g (cond v (Some (f x)) (find test (map f xs))))
+    [ true ↦ refl | false ↦ find-map test f g xs ]
 
 -- the last item of n, written over
 pub on_last-set : {A : Type 0} (f : A → A) (xs : List A) (n : ℕ) (last : A) → n ≡ length xs → 0 < n → last ≡ get_or xs (n - 1) last → on_last f xs ≡ set xs (n - 1) (f last)
@@ -36,33 +43,42 @@ last_version-last (batch ∷ next ∷ log) last e =
     let at : length (batch ∷ next ∷ log) - 1 ≡ suc (length (next ∷ log) - 1) = omega arith in
     last_version-last (next ∷ log) last (rw at at e)
 
-beyond : (draft : Drafted) (known : Option Form) (a b c d e f : List ℕ) (more others : List (List ℕ)) → judge_known draft known a (b ∷ c ∷ d ∷ e ∷ f ∷ more) ≡ judge_known draft known a (b ∷ c ∷ d ∷ e ∷ f ∷ others)
-beyond draft None a b c d e f more others = refl
-beyond draft (Some form.Storage) a b c d e f more others = refl
-beyond draft (Some form.Own) a b c d e f more others = refl
-beyond draft (Some form.Log) a b c d e f more others = refl
-beyond draft (Some form.Batch) a b c d e f more others = refl
-beyond draft (Some form.Set) a b c d e f more others = refl
-beyond draft (Some form.Life) a b c d e f more others = refl
-beyond draft (Some form.Ask) a b c d e f more others = refl
-beyond draft (Some form.Do) a b c d e f more others = refl
-beyond draft (Some form.Close) a b c d e f more others = refl
-beyond draft (Some form.End) a b c d e f more others = refl
+-- two lists of more words than a line may have, with the same first ones
+module _ (a b c d e f g h i j : List ℕ) (more others : List (List ℕ)) where
+  abbrev after_first_word : List (List ℕ) → List (List ℕ)
+  after_first_word rest = b ∷ c ∷ d ∷ e ∷ f ∷ g ∷ h ∷ i ∷ j ∷ rest
 
-judge_beyond : (draft : Drafted) (a b c d e f : List ℕ) (more others : List (List ℕ)) → judge draft (a ∷ b ∷ c ∷ d ∷ e ∷ f ∷ more) ≡ judge draft (a ∷ b ∷ c ∷ d ∷ e ∷ f ∷ others)
-judge_beyond draft a b c d e f more others = at draft.place
-  where
-    same : (here : Drafted) → judge_known here (form_of a) a (b ∷ c ∷ d ∷ e ∷ f ∷ more) ≡ judge_known here (form_of a) a (b ∷ c ∷ d ∷ e ∷ f ∷ others)
-    same here = beyond here (form_of a) a b c d e f more others
+  beyond : (draft : Drafted) (known : Option Form) → judge_known draft known a (after_first_word more) ≡ judge_known draft known a (after_first_word others)
+  beyond draft None = refl
+  beyond draft (Some form.Storage) = refl
+  beyond draft (Some form.Patience) = refl
+  beyond draft (Some form.Own) = refl
+  beyond draft (Some form.Log) = refl
+  beyond draft (Some form.Batch) = refl
+  beyond draft (Some form.Set) = refl
+  beyond draft (Some form.Clear) = refl
+  beyond draft (Some (form.Atomic op)) = refl
+  beyond draft (Some form.Life) = refl
+  beyond draft (Some form.Ask) = refl
+  beyond draft (Some form.Last) = refl
+  beyond draft (Some form.Do) = refl
+  beyond draft (Some form.Close) = refl
+  beyond draft (Some form.End) = refl
 
-    at : (p : Place) → judge (record draft { place = p }) (a ∷ b ∷ c ∷ d ∷ e ∷ f ∷ more) ≡ judge (record draft { place = p }) (a ∷ b ∷ c ∷ d ∷ e ∷ f ∷ others)
-    at place.Start = refl
-    at place.Head = same (record draft { place = place.Head })
-    at place.Log = same (record draft { place = place.Log })
-    at place.Batch = same (record draft { place = place.Batch })
-    at place.Life = same (record draft { place = place.Life })
-    at place.Closed = same (record draft { place = place.Closed })
-    at place.Ended = same (record draft { place = place.Ended })
+  judge_beyond : (draft : Drafted) → judge draft (a ∷ after_first_word more) ≡ judge draft (a ∷ after_first_word others)
+  judge_beyond draft = at draft.place
+    where
+      same : (here : Drafted) → judge_known here (form_of a) a (after_first_word more) ≡ judge_known here (form_of a) a (after_first_word others)
+      same here = beyond here (form_of a)
+
+      at : (p : Place) → judge (record draft { place = p }) (a ∷ after_first_word more) ≡ judge (record draft { place = p }) (a ∷ after_first_word others)
+      at place.Start = refl
+      at place.Head = same (record draft { place = place.Head })
+      at place.Log = same (record draft { place = place.Log })
+      at place.Batch = same (record draft { place = place.Batch })
+      at place.Life = same (record draft { place = place.Life })
+      at place.Closed = same (record draft { place = place.Closed })
+      at place.Ended = same (record draft { place = place.Ended })
 
 -- no more than the first ten words of a line matter
 pub judge-take : (draft : Drafted) (words : List (List ℕ)) → judge draft (take 10 words) ≡ judge draft words
@@ -72,4 +88,8 @@ judge-take draft (a ∷ b ∷ []) = refl
 judge-take draft (a ∷ b ∷ c ∷ []) = refl
 judge-take draft (a ∷ b ∷ c ∷ d ∷ []) = refl
 judge-take draft (a ∷ b ∷ c ∷ d ∷ e ∷ []) = refl
-judge-take draft (a ∷ b ∷ c ∷ d ∷ e ∷ f ∷ more) = judge_beyond draft a b c d e f (take 4 more) more
+judge-take draft (a ∷ b ∷ c ∷ d ∷ e ∷ f ∷ []) = refl
+judge-take draft (a ∷ b ∷ c ∷ d ∷ e ∷ f ∷ g ∷ []) = refl
+judge-take draft (a ∷ b ∷ c ∷ d ∷ e ∷ f ∷ g ∷ h ∷ []) = refl
+judge-take draft (a ∷ b ∷ c ∷ d ∷ e ∷ f ∷ g ∷ h ∷ i ∷ []) = refl
+judge-take draft (a ∷ b ∷ c ∷ d ∷ e ∷ f ∷ g ∷ h ∷ i ∷ j ∷ more) = judge_beyond a b c d e f g h i j [] more draft

@@ -1,14 +1,57 @@
 -- Scripts read by the definitions alone.
 use Rattle.std.proofs.Common.{◌≡◌, [], ◌∷◌, refl, codes, Ok, Err}
-use Rattle.std.specs.Prelude.{None}
+use Rattle.std.specs.Prelude.{None, pos, negsuc, true, false}
 use Rattle.hex.proofs.OnLiterals.{hex_on_literals}
-use Rattle.st_fold.specs.declared.batch.Mutation.TheVariants.{Set}
+use Rattle.st_atomic.specs.declared.AtomicOp.TheVariants.{Add, CompareAndClear}
+use Rattle.st_mutation.specs.declared.batch.Mutation.TheVariants.{Set, Clear, Atomic}
 use Rattle.st_fold.specs.declared.plan.Act.TheVariants.{Apply}
 use Rattle.st_fold.specs.declared.plan.Do.TheVariants as step
 use Rattle.st_fold.specs.declared.plan.Kind.TheVariants as kind
-use Rattle.st_fold.specs.declared.request.Ask.TheVariants.{Get}
+use Rattle.st_fold.specs.declared.request.Ask.TheVariants.{Get, Rows, Select}
 use Rattle.st_script.specs.Draft.{all_keys}
 use Rattle.st_script.specs.Reading.{default_settings, script_of}
+
+clears_and_selectors : script_of (codes "storage 1\nown - ff\nlog\nbatch 1\nset 61 31\nset 62 32\nset 63 33\nbatch 2\nclear 61 63\nbatch 3\nset 62 39\nlife 3\nask 1 get 61 @2\nask 1 range - ff 1 1000 rev @3\nask 1 key 61 eq 1 - ff @3\nask 1 key 62 ne 0 - ff @3\nask 1 key 63 eq -1 - ff @3\nlast get 63 @3\ndo apply 3\nclose\nend\n") ≡ Ok (record {
+  settings = default_settings;
+  own = all_keys ∷ [];
+  log =
+      record { version = 1; moves = []; mutations = Set (97 ∷ []) (49 ∷ []) ∷ Set (98 ∷ []) (50 ∷ []) ∷ Set (99 ∷ []) (51 ∷ []) ∷ [] }
+      ∷ record { version = 2; moves = []; mutations = Clear (record { begin = 97 ∷ []; end = 99 ∷ [] }) ∷ [] }
+      ∷ record { version = 3; moves = []; mutations = Set (98 ∷ []) (57 ∷ []) ∷ [] } ∷ [];
+  lives = record {
+    upto = 3;
+    asks =
+        record { number = 1; reader = 1; ask = Get (97 ∷ []) 2 }
+        ∷ record { number = 2; reader = 1; ask = Rows all_keys 1 1000 true 3 }
+        ∷ record { number = 3; reader = 1; ask = Select (97 ∷ []) true (pos 1) all_keys 3 }
+        ∷ record { number = 4; reader = 1; ask = Select (98 ∷ []) false (pos 0) all_keys 3 }
+        ∷ record { number = 5; reader = 1; ask = Select (99 ∷ []) true (negsuc 0) all_keys 3 } ∷ [];
+    lasts = record { number = 6; reader = 0; ask = Get (99 ∷ []) 3 } ∷ [];
+    dos = (step.Act Apply, 3) ∷ [];
+    cuts = [];
+    peerfails = [];
+    kill = None;
+  } ∷ [];
+})
+unfolding hex_on_literals
+clears_and_selectors = refl
+
+patient : script_of (codes "storage 1\npatience 5\nown - ff\nlog\nbatch 1\nadd 61 01\ncompare_and_clear 61 -\nlife 1\nclose\nend") ≡ Ok (record {
+  settings = record default_settings { patience = 5 };
+  own = all_keys ∷ [];
+  log = record { version = 1; moves = []; mutations = Atomic Add (97 ∷ []) (1 ∷ []) ∷ Atomic CompareAndClear (97 ∷ []) [] ∷ [] } ∷ [];
+  lives = record {
+    upto = 1;
+    asks = [];
+    lasts = [];
+    dos = [];
+    cuts = [];
+    peerfails = [];
+    kill = None;
+  } ∷ [];
+})
+unfolding hex_on_literals
+patient = refl
 
 first_get : script_of (codes "storage 1\nown - ff\nlog\nbatch 1\nset 61 31\nlife 1\nask 1 get 61 @1\ndo apply\ndo poll 1\nclose\nend\n") ≡ Ok (record {
   settings = default_settings;
@@ -55,6 +98,39 @@ word_fault = refl
 
 order_fault : script_of (codes "storage 1\nown - ff\nlog\nset 61 31") ≡ Err (4, kind.Order)
 order_fault = refl
+
+range_fault : script_of (codes "storage 1\nown - ff\nlog\nbatch 1\nclear 62 61") ≡ Err (5, kind.Range)
+unfolding hex_on_literals
+range_fault = refl
+
+-- a number out of its bounds is told before a range without a key that stands left of it
+rows_fault : script_of (codes "storage 1\nown - ff\nlog\nlife 1\nask 1 range 62 61 0 1 fwd @1") ≡ Err (5, kind.Number)
+unfolding hex_on_literals
+rows_fault = refl
+
+offset_fault : script_of (codes "storage 1\nown - ff\nlog\nlife 1\nask 1 key 61 eq -1001 - ff @1") ≡ Err (5, kind.Number)
+unfolding hex_on_literals
+offset_fault = refl
+
+-- a selector's key is below ff, and inside its range or at its end
+selector_fault : script_of (codes "storage 1\nown - ff\nlog\nlife 1\nask 1 key 64 eq 0 62 63 @1") ≡ Err (5, kind.Range)
+unfolding hex_on_literals
+selector_fault = refl
+
+selector_key_fault : script_of (codes "storage 1\nown - ff\nlog\nlife 1\nlast key ff eq 0 - ff @1") ≡ Err (5, kind.Key)
+unfolding hex_on_literals
+selector_key_fault = refl
+
+-- no watch is answered at the end of a life
+last_fault : script_of (codes "storage 1\nown - ff\nlog\nlife 1\nlast watch 61 none") ≡ Err (5, kind.Word)
+last_fault = refl
+
+watch_fault : script_of (codes "storage 1\nown - ff\nlog\nlife 1\nask 1 watch 61 none") ≡ Err (5, kind.Unbuilt)
+watch_fault = refl
+
+-- an option for the second time
+option_fault : script_of (codes "storage 1\npatience 5\npatience 0") ≡ Err (3, kind.Order)
+option_fault = refl
 
 -- comments, blank lines, doubled spaces, leading zeros, hex of either case, and no LF at the end
 spaced : script_of (codes "# a script\n\n  storage   1 \nown - FF\n # its log\nlog\nbatch 007\nset 6A  -\nlife 7\nclose\nend") ≡ Ok (record {

@@ -1,15 +1,16 @@
 -- The script so far, and what may follow.
-use Rattle.std.specs.Prelude.{ℕ, ◌+◌, Bool, true, false, not, ◌&&◌, nat_lt, nat_le, List, [], ◌∷◌, ◌++◌, length, None, Result, Ok, Err, codes, if◌then◌else◌}
+use Rattle.std.specs.Prelude.{ℕ, ◌+◌, Bool, true, false, not, ◌&&◌, ◌||◌, ◌==◌, nat_lt, nat_le, List, [], ◌∷◌, ◌++◌, length, Option, None, Some, is_some, Result, Ok, Err, codes, if◌then◌else◌}
 use Rattle.std.specs.List.{list_any}
 use Rattle.st_key.specs.Spans.{Span}
 pub use Rattle.st_key.specs.Spans.{all_keys}
-use Rattle.st_fold.specs.declared.batch.Batch.{Batch}
-use Rattle.st_fold.specs.declared.batch.Mutation.{Mutation}
-use Rattle.st_fold.specs.declared.batch.Mutation.TheVariants.{Set}
+use Rattle.st_mutation.specs.declared.batch.Batch.{Batch}
+use Rattle.st_mutation.specs.declared.batch.Mutation.{Mutation}
 use Rattle.st_fold.specs.declared.plan.Do.{Do}
 use Rattle.st_fold.specs.declared.plan.Kind.{Kind}
 use Rattle.st_fold.specs.declared.plan.Kind.TheVariants as kind
 use Rattle.st_fold.specs.declared.plan.LifePlan.{LifePlan}
+use Rattle.st_fold.specs.declared.request.Ask.{Ask}
+use Rattle.st_fold.specs.declared.request.Ask.TheVariants.{Rows}
 use Rattle.st_fold.specs.declared.request.Request.{Request}
 use Rattle.st_script.specs.declared.line.Form.{Form}
 use Rattle.st_script.specs.declared.line.Form.TheVariants as form
@@ -23,27 +24,28 @@ use Rattle.st_script.specs.Fields.{is_word}
 -- the lines so far: where they have led, and what they say
 pub record Drafted : Type 0 where
   pub place : Place
+  -- where a line has set it
+  pub patience : Option ℕ
   pub own : List Span
   pub log : List Batch
   pub lives : List LifePlan
-  -- how many requests there are
+  -- how many requests there are, and how many rows they ask for together
   pub requests : ℕ
+  pub rows : ℕ
 
 abbrev pub nothing_yet : Drafted
-nothing_yet = record { place = place.Start; own = []; log = []; lives = []; requests = 0 }
+nothing_yet = record { place = place.Start; patience = None; own = []; log = []; lives = []; requests = 0; rows = 0 }
 
 -- ---- lines that this program doesn't play yet
 
 -- the first words of forms that it doesn't play
 abbrev pub later_forms : List (List ℕ)
 later_forms =
-    codes "window" ∷ codes "patience" ∷ codes "seed" ∷ codes "swap" ∷ codes "limit" ∷ codes "quota" ∷ codes "block"
-    ∷ codes "watches" ∷ codes "assign" ∷ codes "drop" ∷ codes "clear" ∷ codes "add" ∷ codes "and" ∷ codes "or"
-    ∷ codes "xor" ∷ codes "max" ∷ codes "min" ∷ codes "byte_min" ∷ codes "byte_max" ∷ codes "append"
-    ∷ codes "compare_and_clear" ∷ codes "last" ∷ codes "cut" ∷ codes "peerfail" ∷ codes "kill" ∷ []
+    codes "window" ∷ codes "seed" ∷ codes "swap" ∷ codes "limit" ∷ codes "quota" ∷ codes "block" ∷ codes "watches"
+    ∷ codes "assign" ∷ codes "drop" ∷ codes "cut" ∷ codes "peerfail" ∷ codes "kill" ∷ []
 
 abbrev pub later_requests : List (List ℕ)
-later_requests = codes "range" ∷ codes "key" ∷ codes "watch" ∷ []
+later_requests = codes "watch" ∷ []
 
 abbrev pub later_acts : List (List ℕ)
 later_acts = codes "start" ∷ codes "block" ∷ codes "began" ∷ codes "durable" ∷ codes "flush" ∷ []
@@ -69,12 +71,16 @@ is_among_second known (word ∷ words) = is_among_first known words
 -- second life, and requests and acts that come later
 abbrev pub is_later_line : Drafted → Form → List (List ℕ) → Bool
 is_later_line draft form.Storage words = false
+is_later_line draft form.Patience words = false
 is_later_line draft form.Own words = not (is_empty draft.own && are_all_keys words)
 is_later_line draft form.Log words = is_empty draft.own
 is_later_line draft form.Batch words = false
 is_later_line draft form.Set words = false
+is_later_line draft form.Clear words = false
+is_later_line draft (form.Atomic op) words = false
 is_later_line draft form.Life words = not (is_empty draft.lives)
 is_later_line draft form.Ask words = is_among_second later_requests words
+is_later_line draft form.Last words = false
 is_later_line draft form.Do words = is_among_first later_acts words
 is_later_line draft form.Close words = false
 is_later_line draft form.End words = false
@@ -82,19 +88,28 @@ is_later_line draft form.End words = false
 -- ---- where a line may stand
 
 abbrev pub is_allowed : Place → Form → Bool
+is_allowed place.Head form.Patience = true
 is_allowed place.Head form.Own = true
 is_allowed place.Head form.Log = true
 is_allowed place.Log form.Batch = true
 is_allowed place.Batch form.Batch = true
 is_allowed place.Batch form.Set = true
+is_allowed place.Batch form.Clear = true
+is_allowed place.Batch (form.Atomic op) = true
 is_allowed place.Log form.Life = true
 is_allowed place.Batch form.Life = true
 is_allowed place.Life form.Ask = true
+is_allowed place.Life form.Last = true
 is_allowed place.Life form.Do = true
 is_allowed place.Life form.Close = true
 is_allowed place.Closed form.Life = true
 is_allowed place.Closed form.End = true
 is_allowed at other = false
+
+-- an option that an earlier line has set
+abbrev pub is_repeated : Drafted → Form → Bool
+is_repeated draft form.Patience = is_some draft.patience
+is_repeated draft other = false
 
 -- ---- what a line adds
 
@@ -109,12 +124,16 @@ last_version [] = 0
 last_version (batch ∷ []) = batch.version
 last_version (batch ∷ next ∷ later) = last_version (next ∷ later)
 
--- how many batches and requests a script may have, and up to which version a batch is played yet
+-- how many batches and requests a script may have, how many rows its requests may ask for together, and up to which
+-- version a batch is played yet
 abbrev pub max_batches : ℕ
 max_batches = 1000000
 
 abbrev pub max_requests : ℕ
 max_requests = 100000
+
+abbrev pub max_rows : ℕ
+max_rows = 10000000
 
 abbrev pub max_played : ℕ
 max_played = 5000000
@@ -135,8 +154,26 @@ add_batch draft version =
 abbrev pub add_mutation : Mutation → Batch → Batch
 add_mutation mutation batch = record batch { mutations = batch.mutations ++ mutation ∷ [] }
 
+-- a request of a reader, or of none (0) at the end of the life
 abbrev pub add_request : Request → LifePlan → LifePlan
-add_request request plan = record plan { asks = plan.asks ++ request ∷ [] }
+add_request request plan =
+    if request.reader == 0 then record plan { lasts = plan.lasts ++ request ∷ [] }
+    else record plan { asks = plan.asks ++ request ∷ [] }
+
+-- how many rows a request asks for
+abbrev pub rows_asked : Ask → ℕ
+rows_asked (Rows range rows bytes reverse version) = rows
+rows_asked other = 0
+
+-- the next request
+abbrev pub add_asked : Drafted → ℕ → Ask → Result Drafted Kind
+add_asked draft reader ask =
+    if nat_le max_requests draft.requests || nat_lt max_rows (draft.rows + rows_asked ask) then Err kind.Limit
+    else Ok (record draft {
+      lives = on_last (add_request (record { number = draft.requests + 1; reader = reader; ask = ask })) draft.lives;
+      requests = draft.requests + 1;
+      rows = draft.rows + rows_asked ask;
+    })
 
 abbrev pub add_step : Do × ℕ → LifePlan → LifePlan
 add_step step plan = record plan { dos = plan.dos ++ step ∷ [] }
@@ -144,17 +181,13 @@ add_step step plan = record plan { dos = plan.dos ++ step ∷ [] }
 -- the draft after a line, or the version or the limit that the line breaks
 abbrev pub add_line : Drafted → Line → Result Drafted Kind
 add_line draft line.Head = Ok (record draft { place = place.Head })
+add_line draft (line.PatienceOf polls) = Ok (record draft { patience = Some polls })
 add_line draft line.OwnsAll = Ok (record draft { own = all_keys ∷ [] })
 add_line draft line.LogBegins = Ok (record draft { place = place.Log })
 add_line draft (line.BatchOf version) = add_batch draft version
-add_line draft (line.Sets key value) = Ok (record draft { log = on_last (add_mutation (Set key value)) draft.log })
+add_line draft (line.Changes mutation) = Ok (record draft { log = on_last (add_mutation mutation) draft.log })
 add_line draft (line.LifeTo version) = Ok (record draft { place = place.Life; lives = draft.lives ++ no_steps version ∷ [] })
-add_line draft (line.Asks reader ask) =
-    if nat_le max_requests draft.requests then Err kind.Limit
-    else Ok (record draft {
-      lives = on_last (add_request (record { number = draft.requests + 1; reader = reader; ask = ask })) draft.lives;
-      requests = draft.requests + 1;
-    })
+add_line draft (line.Asks reader ask) = add_asked draft reader ask
 add_line draft (line.Does step count) = Ok (record draft { lives = on_last (add_step (step, count)) draft.lives })
 add_line draft line.Closes = Ok (record draft { place = place.Closed })
 add_line draft line.Ends = Ok (record draft { place = place.Ended })

@@ -1,5 +1,6 @@
 pub mod Words
 pub mod Fields
+pub mod Requests
 pub mod Lines
 pub mod Draft
 pub mod Outcome

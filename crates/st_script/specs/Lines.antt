@@ -1,55 +1,91 @@
 -- What a line says by itself.
-use Rattle.std.specs.Prelude.{ℕ, Bool, ◌&&◌, ◌==◌, List, [], ◌∷◌, Option, Some, None, Result, Ok, Err, codes, drop, slice_index, if◌then◌else◌}
+use Rattle.std.specs.Prelude.{ℕ, List, [], ◌∷◌, find, option_map, Option, Some, None, Result, Ok, Err, codes, if◌then◌else◌}
+use Rattle.st_atomic.specs.declared.AtomicOp.TheVariants.{Add, And, Or, Xor, Max, Min, ByteMin, ByteMax, AppendIfFits, CompareAndClear}
+use Rattle.st_mutation.specs.declared.batch.Mutation.TheVariants.{Set, Clear, Atomic}
 use Rattle.st_fold.specs.declared.plan.Act.TheVariants.{Apply}
 use Rattle.st_fold.specs.declared.plan.Do.{Do}
 use Rattle.st_fold.specs.declared.plan.Do.TheVariants as step
 use Rattle.st_fold.specs.declared.plan.Kind.{Kind}
 use Rattle.st_fold.specs.declared.plan.Kind.TheVariants as kind
-use Rattle.st_fold.specs.declared.request.Ask.TheVariants.{Get}
 use Rattle.st_script.specs.declared.line.Form.{Form}
 use Rattle.st_script.specs.declared.line.Form.TheVariants as form
 use Rattle.st_script.specs.declared.line.Line.{Line}
 use Rattle.st_script.specs.declared.line.Line.TheVariants as line
-use Rattle.st_script.specs.Fields.{is_word, number_field, key_field, value_field}
+use Rattle.st_script.specs.Fields.{is_word, number_field, max_version, bytes_field, key_field, value_field, range_of, ◌>>=◌}
+use Rattle.st_script.specs.Requests.{is_request, request_of}
+
+-- the forms, each by its first word
+abbrev pub forms : List (List ℕ × Form)
+forms =
+    (codes "storage", form.Storage) ∷ (codes "patience", form.Patience) ∷ (codes "own", form.Own) ∷ (codes "log", form.Log)
+    ∷ (codes "batch", form.Batch) ∷ (codes "set", form.Set) ∷ (codes "clear", form.Clear) ∷ (codes "add", form.Atomic Add)
+    ∷ (codes "and", form.Atomic And) ∷ (codes "or", form.Atomic Or) ∷ (codes "xor", form.Atomic Xor)
+    ∷ (codes "max", form.Atomic Max) ∷ (codes "min", form.Atomic Min) ∷ (codes "byte_min", form.Atomic ByteMin)
+    ∷ (codes "byte_max", form.Atomic ByteMax) ∷ (codes "append", form.Atomic AppendIfFits)
+    ∷ (codes "compare_and_clear", form.Atomic CompareAndClear) ∷ (codes "life", form.Life) ∷ (codes "ask", form.Ask)
+    ∷ (codes "last", form.Last) ∷ (codes "do", form.Do) ∷ (codes "close", form.Close) ∷ (codes "end", form.End) ∷ []
+
+-- the form that a table has for a word
+abbrev pub form_in : List (List ℕ × Form) → List ℕ → Option Form
+form_in table word = option_map (λ row. row.1) (find (λ row. is_word word row.0) table)
 
 -- the form whose first word this is
 abbrev pub form_of : List ℕ → Option Form
-form_of word =
-    if is_word word (codes "storage") then Some form.Storage
-    else (if is_word word (codes "own") then Some form.Own
-    else (if is_word word (codes "log") then Some form.Log
-    else (if is_word word (codes "batch") then Some form.Batch
-    else (if is_word word (codes "set") then Some form.Set
-    else (if is_word word (codes "life") then Some form.Life
-    else (if is_word word (codes "ask") then Some form.Ask
-    else (if is_word word (codes "do") then Some form.Do
-    else (if is_word word (codes "close") then Some form.Close
-    else (if is_word word (codes "end") then Some form.End
-    else None)))))))))
+form_of word = form_in forms word
 
-infixl 10 ◌>>=◌
-abbrev pub ◌>>=◌ : {A B : Type 0} → Result A Kind → (A → Result B Kind) → Result B Kind
-Ok x >>= f = f x
-Err e >>= f = Err e
+abbrev pub patience_line : List ℕ → Result Line Kind
+patience_line word = do
+  polls ← number_field 1 1000 word
+  Ok (line.PatienceOf polls)
 
--- the greatest version
-abbrev pub max_version : ℕ
-max_version = 9223372036854775807
+abbrev pub batch_line : List ℕ → Result Line Kind
+batch_line word = do
+  version ← number_field 1 max_version word
+  Ok (line.BatchOf version)
 
--- a word in the place of a version begins with `@` (64), and the number follows
-abbrev pub is_at : List ℕ → Bool
-is_at word = slice_index word 0 == 64
+-- a key and a value
+abbrev pub pair_of : (key value : List ℕ) → Result (List ℕ × List ℕ) Kind
+pair_of key value = do
+  key ← key_field key
+  value ← value_field value
+  Ok (key, value)
 
-abbrev pub after_at : List ℕ → List ℕ
-after_at word = drop 1 word
+-- two words that are a key and a value
+abbrev pub pair_in : List (List ℕ) → Result (List ℕ × List ℕ) Kind
+pair_in (key ∷ value ∷ []) = pair_of key value
+pair_in words = Err kind.Word
 
--- a get of a reader from 1 to 64
-abbrev pub get_line : List ℕ → List ℕ → List ℕ → Result Line Kind
-get_line reader key version = do
+abbrev pub clear_line : (begin end : List ℕ) → Result Line Kind
+clear_line begin end = do
+  begin ← bytes_field begin
+  end ← bytes_field end
+  range ← range_of begin end
+  Ok (line.Changes (Clear range))
+
+abbrev pub life_line : List ℕ → Result Line Kind
+life_line word = do
+  version ← number_field 0 max_version word
+  Ok (line.LifeTo version)
+
+-- a request of a reader from 1 to 64
+abbrev pub asked_by : List ℕ → List (List ℕ) → Result Line Kind
+asked_by reader request = do
   number ← number_field 1 64 reader
-  bytes ← key_field key
-  at ← number_field 0 max_version version
-  Ok (line.Asks number (Get bytes at))
+  ask ← request_of request
+  Ok (line.Asks number ask)
+
+abbrev pub ask_line : List (List ℕ) → Result Line Kind
+ask_line [] = Err kind.Word
+ask_line (reader ∷ request) = if is_request request then asked_by reader request else Err kind.Word
+
+-- a request that is answered at the end of the life, which no reader asks (0)
+abbrev pub asked_at_end : List (List ℕ) → Result Line Kind
+asked_at_end request = do
+  ask ← request_of request
+  Ok (line.Asks 0 ask)
+
+abbrev pub last_line : List (List ℕ) → Result Line Kind
+last_line request = if is_request request then asked_at_end request else Err kind.Word
 
 -- a step, so often
 abbrev pub step_line : Do → Option (List ℕ) → Result Line Kind
@@ -57,27 +93,6 @@ step_line done None = Ok (line.Does done 1)
 step_line done (Some word) = do
   count ← number_field 1 1000000 word
   Ok (line.Does done count)
-
-abbrev pub set_line : List ℕ → List ℕ → Result Line Kind
-set_line key value = do
-  key ← key_field key
-  value ← value_field value
-  Ok (line.Sets key value)
-
-abbrev pub batch_line : List ℕ → Result Line Kind
-batch_line word = do
-  version ← number_field 1 max_version word
-  Ok (line.BatchOf version)
-
-abbrev pub life_line : List ℕ → Result Line Kind
-life_line word = do
-  version ← number_field 0 max_version word
-  Ok (line.LifeTo version)
-
-abbrev pub ask_line : List (List ℕ) → Result Line Kind
-ask_line (reader ∷ request ∷ key ∷ at ∷ []) =
-    if is_word request (codes "get") && is_at at then get_line reader key (after_at at) else Err kind.Word
-ask_line words = Err kind.Word
 
 -- `apply`, once or so often
 abbrev pub apply_line : List (List ℕ) → Result Line Kind
@@ -104,19 +119,24 @@ do_line (act ∷ words) =
     else Err kind.Word)
 
 -- What the words after the first say. A wrong number of words, or an unknown one, is told before what single words
--- stand for, and of these the first from the left
+-- stand for, of these the first from the left is told, and then what they are together
 abbrev pub line_of : Form → List (List ℕ) → Result Line Kind
 line_of form.Storage words = Ok line.Head
+line_of form.Patience (polls ∷ []) = patience_line polls
+line_of form.Patience words = Err kind.Word
 line_of form.Own words = Ok line.OwnsAll
 line_of form.Log [] = Ok line.LogBegins
 line_of form.Log (word ∷ words) = Err kind.Word
 line_of form.Batch (version ∷ []) = batch_line version
 line_of form.Batch words = Err kind.Word
-line_of form.Set (key ∷ value ∷ []) = set_line key value
-line_of form.Set words = Err kind.Word
+line_of form.Set words = pair_in words >>= λ pair. Ok (line.Changes (Set pair.0 pair.1))
+line_of form.Clear (begin ∷ end ∷ []) = clear_line begin end
+line_of form.Clear words = Err kind.Word
+line_of (form.Atomic op) words = pair_in words >>= λ pair. Ok (line.Changes (Atomic op pair.0 pair.1))
 line_of form.Life (version ∷ []) = life_line version
 line_of form.Life words = Err kind.Word
 line_of form.Ask words = ask_line words
+line_of form.Last words = last_line words
 line_of form.Do words = do_line words
 line_of form.Close [] = Ok line.Closes
 line_of form.Close (word ∷ words) = Err kind.Word

@@ -19,6 +19,12 @@ Says (Ok value) judged = judged ≡ Ok value
 Says (Err (why_line.Bad kind)) judged = judged ≡ Err kind
 Says (Err why_line.NoMemory) judged = Unit {0}
 
+-- the same of a value that is seen as another
+abbrev pub SaysAs : {A B : Type 0} → (A → B) → Result A LineRefusal → Result B Kind → Type 0
+SaysAs seen (Ok value) judged = judged ≡ Ok (seen value)
+SaysAs seen (Err (why_line.Bad kind)) judged = judged ≡ Err kind
+SaysAs seen (Err why_line.NoMemory) judged = Unit {0}
+
 -- the draft after a line, or the kind of fault that is judged
 abbrev pub Becomes : {A : Type 0} → Result A LineRefusal → Drafted → Result Drafted Kind → Type 0
 Becomes (Ok done) after judged = judged ≡ Ok after

@@ -1,8 +1,8 @@
 //! The script so far, and what may follow.
-ghost use Rattle.std.specs.Prelude.{◌≡◌, [], ◌∷◌, ◌++◌, length, map, IfOk};
+ghost use Rattle.std.specs.Prelude.{◌≡◌, [], ◌∷◌, ◌++◌, length, map, OnOk, OnErr};
 ghost use Rattle.std.specs.List.{list_any};
 ghost use Rattle.st_script.specs.Fields.{is_word};
-ghost use Rattle.st_script.specs.Draft.{nothing_yet, all_keys, later_forms, later_requests, later_acts, is_among, are_all_keys, is_later_line, is_allowed, on_last, last_version, add_batch, add_mutation, add_line};
+ghost use Rattle.st_script.specs.Draft.{nothing_yet, all_keys, later_forms, later_requests, later_acts, is_among, are_all_keys, is_later_line, is_allowed, is_repeated, on_last, last_version, add_batch, add_mutation, add_request, rows_asked, add_line};
 ghost use Rattle.st_script.specs.Outcome.{Says, Becomes, Reads};
 ghost use Rattle.st_script.specs.Reading.{judge_head, judge_form, judge_known, judge, after_line, default_settings, finish};
 ghost use Rattle.st_script.specs.Words.{is_empty};
@@ -11,10 +11,11 @@ use crate::field::is_word;
 use crate::line::{Form, Line, Place};
 use crate::refusal::{LineRefusal, ScriptRefusal};
 use crate::words::{first_words, is_skipped};
-use st_fold::{Ask, Batch, Do, Kind, LifePlan, Mutation, Request, Script, Settings};
+use st_fold::{Ask, Do, Kind, LifePlan, Request, Script, Settings};
 use st_key::{Key, Range, Ranges};
 use st_list::Items;
-use std::alloc::Global;
+use st_mutation::{Batch, Mutation};
+use std::alloc::{AllocError, Global};
 use std::marker::Model;
 
 /// How many batches a script may have.
@@ -22,6 +23,9 @@ const MAX_BATCHES: usize = 1_000_000;
 
 /// How many requests a script may have.
 const MAX_REQUESTS: u64 = 100_000;
+
+/// How many rows the requests of a script may ask for together.
+const MAX_ROWS: u64 = 10_000_000;
 
 /// Up to which version a batch is played yet.
 const MAX_PLAYED: u64 = 5_000_000;
@@ -39,9 +43,8 @@ const DEFAULT_SETTINGS: Settings = Settings {
 };
 
 // The first words of forms that aren't played yet.
-const LATER_FORMS: [&[u8]; 25] = [
+const LATER_FORMS: [&[u8]; 12] = [
     b"window",
-    b"patience",
     b"seed",
     b"swap",
     b"limit",
@@ -50,24 +53,12 @@ const LATER_FORMS: [&[u8]; 25] = [
     b"watches",
     b"assign",
     b"drop",
-    b"clear",
-    b"add",
-    b"and",
-    b"or",
-    b"xor",
-    b"max",
-    b"min",
-    b"byte_min",
-    b"byte_max",
-    b"append",
-    b"compare_and_clear",
-    b"last",
     b"cut",
     b"peerfail",
     b"kill",
 ];
 
-const LATER_REQUESTS: [&[u8]; 3] = [b"range", b"key", b"watch"];
+const LATER_REQUESTS: [&[u8]; 1] = [b"watch"];
 
 const LATER_ACTS: [&[u8]; 5] = [b"start", b"block", b"began", b"durable", b"flush"];
 
@@ -78,10 +69,12 @@ const END_OF_KEYS: [&[u8]; 4] = [b"ff", b"fF", b"Ff", b"FF"];
 #[derive(Debug, Drop)]
 pub(crate) struct Draft {
     place: Place,
+    patience: Option<u32>,
     own: Ranges,
     log: Vec<Batch>,
     lives: Vec<LifePlan>,
     requests: u64,
+    rows: u64,
 }
 
 impl Model for Draft {
@@ -91,10 +84,12 @@ impl Model for Draft {
 
     ghost view = { λ a. record {
       place = a.place;
+      patience = a.patience;
       own = a.own;
       log = a.log.items;
       lives = a.lives.items;
       requests = a.requests;
+      rows = a.rows;
     } };
 }
 
@@ -104,10 +99,12 @@ impl Draft {
     {
         Draft {
             place: Place::Start,
+            patience: None,
             own: Ranges::new(alloc),
             log: Vec::new(alloc),
             lives: Vec::new(alloc),
             requests: 0,
+            rows: 0,
         }
     }
 
@@ -161,7 +158,7 @@ impl Draft {
         if self.is_later_line(form, words) {
             return Err(LineRefusal::Bad(Kind::Unbuilt));
         }
-        if !is_allowed(self.place, form) {
+        if !is_allowed(self.place, form) || self.is_repeated(form) {
             return Err(LineRefusal::Bad(Kind::Order));
         }
         let line = Line::read(alloc, form, words)?;
@@ -178,7 +175,25 @@ impl Draft {
             Form::Life => !self.lives.is_empty(),
             Form::Ask => matches!(words, [_, request, ..] if is_among(&LATER_REQUESTS, request)),
             Form::Do => matches!(words, [act, ..] if is_among(&LATER_ACTS, act)),
-            Form::Storage | Form::Batch | Form::Set | Form::Close | Form::End => false,
+            Form::Storage
+            | Form::Patience
+            | Form::Batch
+            | Form::Set
+            | Form::Clear
+            | Form::Atomic(_)
+            | Form::Last
+            | Form::Close
+            | Form::End => false,
+        }
+    }
+
+    // Whether the line is an option that an earlier line has set.
+    fn is_repeated(&self, form: Form) -> bool
+        ensures { result ≡ is_repeated self.now form }
+    {
+        match form {
+            Form::Patience => self.patience.is_some(),
+            _ => false,
         }
     }
 
@@ -188,10 +203,11 @@ impl Draft {
     {
         match line {
             Line::Head => self.place = Place::Head,
+            Line::PatienceOf(polls) => self.patience = Some(polls),
             Line::OwnsAll => self.own = all_keys(alloc)?,
             Line::LogBegins => self.place = Place::Log,
             Line::BatchOf(version) => return self.begin_batch(alloc, version),
-            Line::Sets(key, value) => return self.push_mutation(Mutation::Set(key, value)),
+            Line::Changes(mutation) => return self.push_mutation(mutation),
             Line::LifeTo(version) => return self.begin_life(alloc, version),
             Line::Asks(reader, ask) => return self.push_request(reader, ask),
             Line::Does(step, count) => return self.push_step(step, count),
@@ -261,18 +277,23 @@ impl Draft {
     fn push_request(&mut self, reader: u32, ask: Ask) -> Result<(), LineRefusal>
         ensures { Becomes result self.new (add_line self.old (Line.Asks reader ask)) }
     {
-        if self.requests >= MAX_REQUESTS {
+        let rows = self.rows.saturating_add(rows_asked(&ask));
+        if self.requests >= MAX_REQUESTS || rows > MAX_ROWS {
             return Err(LineRefusal::Bad(Kind::Limit));
         }
         let number = self.requests + 1;
         if let Some(life) = self.lives.last_mut() {
-            life.asks.push(Request {
-                number,
-                reader,
-                ask,
-            })?;
+            add_request(
+                life,
+                Request {
+                    number,
+                    reader,
+                    ask,
+                },
+            )?;
         }
         self.requests = number;
+        self.rows = rows;
         Ok(())
     }
 
@@ -296,7 +317,10 @@ impl Draft {
             });
         }
         Ok(Script {
-            settings: DEFAULT_SETTINGS,
+            settings: Settings {
+                patience: self.patience.unwrap_or(DEFAULT_SETTINGS.patience),
+                ..DEFAULT_SETTINGS
+            },
             own: self.own,
             log: Items::from_vec(self.log),
             lives: Items::from_vec(self.lives),
@@ -310,12 +334,37 @@ fn is_allowed(place: Place, form: Form) -> bool
 {
     matches!(
         (place, form),
-        (Place::Head, Form::Own | Form::Log)
+        (Place::Head, Form::Patience | Form::Own | Form::Log)
             | (Place::Log, Form::Batch | Form::Life)
-            | (Place::Batch, Form::Batch | Form::Set | Form::Life)
-            | (Place::Life, Form::Ask | Form::Do | Form::Close)
+            | (
+                Place::Batch,
+                Form::Batch | Form::Set | Form::Clear | Form::Atomic(_) | Form::Life
+            )
+            | (Place::Life, Form::Ask | Form::Last | Form::Do | Form::Close)
             | (Place::Closed, Form::Life | Form::End)
     )
+}
+
+// How many rows a request asks for.
+fn rows_asked(ask: &Ask) -> u64
+    ensures { result ≡ rows_asked ask.now }
+{
+    match ask {
+        Ask::Rows { rows, .. } => u64::from(*rows),
+        _ => 0,
+    }
+}
+
+// Adds a request of a reader, or of none (0) at the end of the life.
+fn add_request(life: &mut LifePlan, request: Request) -> Result<(), AllocError>
+    ensures ok { OnOk result (life.new ≡ add_request request life.old) }
+    ensures err { OnErr result (life.new ≡ life.old) }
+{
+    if request.reader == 0 {
+        life.lasts.push(request)
+    } else {
+        life.asks.push(request)
+    }
 }
 
 fn is_among(known: &[&[u8]], word: &[u8]) -> bool

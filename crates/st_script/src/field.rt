@@ -1,22 +1,35 @@
 //! Reads single words.
-ghost use Rattle.std.specs.Prelude.{◌≡◌, ◌≤◌, IfOk, option_map};
+ghost use Rattle.std.specs.Prelude.{◌≡◌, ◌≤◌, Ok, Err, IfOk, if◌then◌else◌, length, nat_le, option_map};
 ghost use Rattle.st_key.specs.Spans.{key_less};
-ghost use Rattle.st_script.specs.Fields.{is_word, number_of, number_field, bytes_of, key_field, value_field};
-ghost use Rattle.st_script.specs.Outcome.{Says};
+ghost use Rattle.st_script.specs.Fields.{is_word, begins_with, number_of, number_field, offset_field, version_field, bytes_of, bytes_field, key_field, value_field, range_of, range_about};
+ghost use Rattle.st_script.specs.Outcome.{Says, SaysAs};
 
 use crate::refusal::LineRefusal;
 use hex::FromHexError;
 use st_fold::Kind;
-use st_key::{Key, Value};
+use st_key::{Key, KeyRefusal, Range, Value};
 use std::alloc::{AllocError, Global};
+
+/// The greatest version.
+pub(crate) const MAX_VERSION: u64 = 9_223_372_036_854_775_807;
 
 /// How many digits a number has at most.
 const MAX_DIGITS: usize = 20;
+
+/// How far an offset may lead, up or down.
+const MAX_OFFSET: u32 = 1_000;
 
 pub(crate) fn is_word(word: &[u8], text: &[u8]) -> bool
     ensures { result ≡ is_word word.now text.now }
 {
     word == text
+}
+
+/// Whether the word begins with this byte.
+pub(crate) fn begins_with(word: &[u8], byte: u8) -> bool
+    ensures { result ≡ begins_with byte word.now }
+{
+    matches!(word, [first, ..] if *first == byte)
 }
 
 /// A number from `low` to `high`.
@@ -27,6 +40,34 @@ pub(crate) fn number(word: &[u8], low: u64, high: u64) -> Result<u64, Kind>
     match decimal(word) {
         Some(number) if low <= number && number <= high => Ok(number),
         _ => Err(Kind::Number),
+    }
+}
+
+/// A number from `low` to `high`.
+pub(crate) fn small_number(word: &[u8], low: u32, high: u32) -> Result<u32, Kind>
+    ensures value { result ≡ number_field low high word.now }
+    ensures bounds { IfOk result (λ number. (low ≤ number) × (number ≤ high)) }
+{
+    Ok(number(word, u64::from(low), u64::from(high))? as u32)
+}
+
+/// A whole number from -1,000 to 1,000.
+pub(crate) fn offset(word: &[u8]) -> Result<i32, Kind>
+    ensures { result ≡ offset_field word.now }
+{
+    match word {
+        [b'-', digits @ ..] => Ok(-(small_number(digits, 0, MAX_OFFSET)? as i32)),
+        digits => Ok(small_number(digits, 0, MAX_OFFSET)? as i32),
+    }
+}
+
+/// A version, which follows a first byte.
+pub(crate) fn version(word: &[u8]) -> Result<u64, Kind>
+    ensures { result ≡ version_field word.now }
+{
+    match word {
+        [_, digits @ ..] => number(digits, 0, MAX_VERSION),
+        [] => Err(Kind::Number),
     }
 }
 
@@ -48,7 +89,7 @@ fn decimal(word: &[u8]) -> Option<u64>
     Some(number)
 }
 
-fn bytes(alloc: Global, word: &[u8]) -> Result<Option<Vec<u8>>, AllocError>
+fn decode(alloc: Global, word: &[u8]) -> Result<Option<Vec<u8>>, AllocError>
     ensures { IfOk result (λ bytes. option_map (λ v. v.items) bytes ≡ bytes_of word.now) }
 {
     if is_word(word, b"-") {
@@ -61,6 +102,13 @@ fn bytes(alloc: Global, word: &[u8]) -> Result<Option<Vec<u8>>, AllocError>
     }
 }
 
+/// Bytes, of any number.
+pub(crate) fn bytes(alloc: Global, word: &[u8]) -> Result<Vec<u8>, LineRefusal>
+    ensures { SaysAs (λ v. v.items) result (bytes_field word.now) }
+{
+    Ok(decode(alloc, word)?.ok_or(Kind::Hex)?)
+}
+
 fn is_less(a: &[u8], b: &[u8]) -> bool
     ensures { result ≡ key_less a.now b.now }
 {
@@ -71,7 +119,7 @@ fn is_less(a: &[u8], b: &[u8]) -> bool
 pub(crate) fn key(alloc: Global, word: &[u8]) -> Result<Key, LineRefusal>
     ensures { Says result (key_field word.now) }
 {
-    let bytes = bytes(alloc, word)?.ok_or(Kind::Hex)?;
+    let bytes = bytes(alloc, word)?;
     if !is_less(&bytes, &[0xff]) {
         return Err(LineRefusal::Bad(Kind::Key));
     }
@@ -82,6 +130,47 @@ pub(crate) fn key(alloc: Global, word: &[u8]) -> Result<Key, LineRefusal>
 pub(crate) fn value(alloc: Global, word: &[u8]) -> Result<Value, LineRefusal>
     ensures { Says result (value_field word.now) }
 {
-    let bytes = bytes(alloc, word)?.ok_or(Kind::Hex)?;
+    let bytes = bytes(alloc, word)?;
     Ok(Value::from_vec(bytes)?)
+}
+
+/// The range between two ends, which aren't judged as keys.
+pub(crate) fn range(alloc: Global, begin: &[u8], end: &[u8]) -> Result<Range, LineRefusal>
+    ensures { Says result (range_of begin.now end.now) }
+{
+    if is_less(&[0xff], end) {
+        return Err(LineRefusal::Bad(Kind::Range));
+    }
+    let begin = end_key(alloc, begin)?;
+    let end = end_key(alloc, end)?;
+    match Range::new(begin, end) {
+        Ok(range) => Ok(range),
+        Err(_) => Err(LineRefusal::Bad(Kind::Range)),
+    }
+}
+
+// An end of a range.
+fn end_key(alloc: Global, bytes: &[u8]) -> Result<Key, LineRefusal>
+    ensures { Says result (if nat_le (length bytes.now) 10001 then Ok bytes.now else Err Kind.Range) }
+{
+    match Key::end(alloc, bytes) {
+        Ok(key) => Ok(key),
+        Err(KeyRefusal::KeyTooLong { .. }) => Err(LineRefusal::Bad(Kind::Range)),
+        Err(KeyRefusal::NoMemory) => Err(LineRefusal::NoMemory),
+    }
+}
+
+/// The range between two ends, neither of which lies on the wrong side of `key`.
+pub(crate) fn range_about(
+    alloc: Global,
+    key: &Key,
+    begin: &[u8],
+    end: &[u8],
+) -> Result<Range, LineRefusal>
+    ensures { Says result (range_about key.now begin.now end.now) }
+{
+    if is_less(key.bytes(), begin) || is_less(end, key.bytes()) {
+        return Err(LineRefusal::Bad(Kind::Range));
+    }
+    range(alloc, begin, end)
 }

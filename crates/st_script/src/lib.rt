@@ -11,6 +11,7 @@ mod draft;
 mod field;
 mod line;
 mod refusal;
+mod request;
 mod words;
 
 use draft::Draft;

@@ -1,21 +1,26 @@
 //! What a line says by itself.
-ghost use Rattle.std.specs.Prelude.{◌≡◌, ◌<◌, length, map, IsTrue, if◌then◌else◌};
+ghost use Rattle.std.specs.Prelude.{◌≡◌, map, if◌then◌else◌};
 ghost use Rattle.std.specs.Option.{option_copied};
 ghost use Rattle.st_script.specs.Fields.{number_field};
-ghost use Rattle.st_script.specs.Lines.{form_of, line_of, is_at, set_line, get_line, ask_line, step_line, apply_line, poll_by, poll_line, do_line};
+ghost use Rattle.st_script.specs.Lines.{form_in, form_of, line_of, pair_of, pair_in, clear_line, asked_by, ask_line, last_line, step_line, apply_line, poll_by, poll_line, do_line};
 ghost use Rattle.st_script.specs.Outcome.{Says};
 ghost use Rattle.st_script.specs.Words.{is_empty};
 
-use crate::field::{is_word, key as read_key, number, value as read_value};
+use crate::field::{
+    MAX_VERSION, bytes, is_word, key as read_key, number, range, small_number, value as read_value,
+};
 use crate::refusal::LineRefusal;
+use crate::request::{is_request, read_request};
+use st_atomic::AtomicOp;
 use st_fold::{Act, Ask, Do, Kind};
 use st_key::{Key, Value};
+use st_mutation::Mutation;
 use std::alloc::Global;
 
-/// The greatest version.
-const MAX_VERSION: u64 = 9_223_372_036_854_775_807;
+/// How many polls the patience may be.
+const MAX_PATIENCE: u32 = 1_000;
 
-const MAX_READERS: u64 = 64;
+const MAX_READERS: u32 = 64;
 
 /// How often one line may take a step.
 const MAX_COUNT: u64 = 1_000_000;
@@ -24,31 +29,67 @@ const MAX_COUNT: u64 = 1_000_000;
 #[derive(Clone, Copy, Debug, PartialEq, Eq)]
 pub enum Form {
     Storage,
+    Patience,
     Own,
     Log,
     Batch,
     Set,
+    Clear,
+    Atomic(AtomicOp),
     Life,
     Ask,
+    Last,
     Do,
     Close,
     End,
 }
+
+// The forms, each by its first word.
+const FORMS: [(&[u8], Form); 23] = [
+    (b"storage", Form::Storage),
+    (b"patience", Form::Patience),
+    (b"own", Form::Own),
+    (b"log", Form::Log),
+    (b"batch", Form::Batch),
+    (b"set", Form::Set),
+    (b"clear", Form::Clear),
+    (b"add", Form::Atomic(AtomicOp::Add)),
+    (b"and", Form::Atomic(AtomicOp::And)),
+    (b"or", Form::Atomic(AtomicOp::Or)),
+    (b"xor", Form::Atomic(AtomicOp::Xor)),
+    (b"max", Form::Atomic(AtomicOp::Max)),
+    (b"min", Form::Atomic(AtomicOp::Min)),
+    (b"byte_min", Form::Atomic(AtomicOp::ByteMin)),
+    (b"byte_max", Form::Atomic(AtomicOp::ByteMax)),
+    (b"append", Form::Atomic(AtomicOp::AppendIfFits)),
+    (
+        b"compare_and_clear",
+        Form::Atomic(AtomicOp::CompareAndClear),
+    ),
+    (b"life", Form::Life),
+    (b"ask", Form::Ask),
+    (b"last", Form::Last),
+    (b"do", Form::Do),
+    (b"close", Form::Close),
+    (b"end", Form::End),
+];
 
 /// What a line says.
 #[derive(Debug, Drop)]
 pub enum Line {
     /// The first line.
     Head,
+    /// A request whose version has not come after this number of polls is refused.
+    PatienceOf(u32),
     /// The server owns all keys.
     OwnsAll,
     LogBegins,
     /// A batch of this version begins.
     BatchOf(u64),
-    Sets(Key, Value),
+    Changes(Mutation),
     /// A life begins that applies versions up to this one.
     LifeTo(u64),
-    /// This reader asks.
+    /// This reader asks, or none (0) at the end of the life.
     Asks(u32, Ask),
     /// A step, so often.
     Does(Do, u64),
@@ -80,30 +121,18 @@ impl Form {
     pub(crate) fn of(word: &[u8]) -> Option<Form>
         ensures { result ≡ form_of word.now }
     {
-        if is_word(word, b"storage") {
-            Some(Form::Storage)
-        } else if is_word(word, b"own") {
-            Some(Form::Own)
-        } else if is_word(word, b"log") {
-            Some(Form::Log)
-        } else if is_word(word, b"batch") {
-            Some(Form::Batch)
-        } else if is_word(word, b"set") {
-            Some(Form::Set)
-        } else if is_word(word, b"life") {
-            Some(Form::Life)
-        } else if is_word(word, b"ask") {
-            Some(Form::Ask)
-        } else if is_word(word, b"do") {
-            Some(Form::Do)
-        } else if is_word(word, b"close") {
-            Some(Form::Close)
-        } else if is_word(word, b"end") {
-            Some(Form::End)
-        } else {
-            None
-        }
+        form_in(&FORMS, word)
     }
+}
+
+// The form that a table has for a word.
+fn form_in(table: &[(&[u8], Form)], word: &[u8]) -> Option<Form>
+    ensures { result ≡ form_in (map (λ row. (row.0.now, row.1)) table.now) word.now }
+{
+    table
+        .iter()
+        .find(|(known, _)| is_word(word, known))
+        .map(|(_, form)| *form)
 }
 
 impl Line {
@@ -113,12 +142,22 @@ impl Line {
     {
         match form {
             Form::Storage => Ok(Line::Head),
+            Form::Patience => patience_line(words),
             Form::Own => Ok(Line::OwnsAll),
             Form::Log => no_words(words, Line::LogBegins),
             Form::Batch => batch_line(words),
-            Form::Set => set_line(alloc, words),
+            Form::Set => {
+                let (key, value) = pair(alloc, words)?;
+                Ok(Line::Changes(Mutation::Set(key, value)))
+            }
+            Form::Clear => clear_line(alloc, words),
+            Form::Atomic(op) => {
+                let (key, value) = pair(alloc, words)?;
+                Ok(Line::Changes(Mutation::Atomic(op, key, value)))
+            }
             Form::Life => life_line(words),
             Form::Ask => ask_line(alloc, words),
+            Form::Last => last_line(alloc, words),
             Form::Do => do_line(words),
             Form::Close => no_words(words, Line::Closes),
             Form::End => no_words(words, Line::Ends),
@@ -136,6 +175,15 @@ fn no_words(words: &[&[u8]], line: Line) -> Result<Line, LineRefusal>
     }
 }
 
+fn patience_line(words: &[&[u8]]) -> Result<Line, LineRefusal>
+    ensures { Says result (line_of Form.Patience (map (λ word. word.now) words.now)) }
+{
+    match words {
+        [polls] => Ok(Line::PatienceOf(small_number(polls, 1, MAX_PATIENCE)?)),
+        _ => Err(LineRefusal::Bad(Kind::Word)),
+    }
+}
+
 fn batch_line(words: &[&[u8]]) -> Result<Line, LineRefusal>
     ensures { Says result (line_of Form.Batch (map (λ word. word.now) words.now)) }
 {
@@ -145,21 +193,40 @@ fn batch_line(words: &[&[u8]]) -> Result<Line, LineRefusal>
     }
 }
 
-fn set_line(alloc: Global, words: &[&[u8]]) -> Result<Line, LineRefusal>
-    ensures { Says result (line_of Form.Set (map (λ word. word.now) words.now)) }
+// Two words that are a key and a value.
+fn pair(alloc: Global, words: &[&[u8]]) -> Result<(Key, Value), LineRefusal>
+    ensures { Says result (pair_in (map (λ word. word.now) words.now)) }
 {
     match words {
-        [key, value] => set(alloc, key, value),
+        [key, value] => key_and_value(alloc, key, value),
         _ => Err(LineRefusal::Bad(Kind::Word)),
     }
 }
 
-fn set(alloc: Global, key: &[u8], value: &[u8]) -> Result<Line, LineRefusal>
-    ensures { Says result (set_line key.now value.now) }
+fn key_and_value(alloc: Global, key: &[u8], value: &[u8]) -> Result<(Key, Value), LineRefusal>
+    ensures { Says result (pair_of key.now value.now) }
 {
     let key = read_key(alloc, key)?;
     let value = read_value(alloc, value)?;
-    Ok(Line::Sets(key, value))
+    Ok((key, value))
+}
+
+fn clear_line(alloc: Global, words: &[&[u8]]) -> Result<Line, LineRefusal>
+    ensures { Says result (line_of Form.Clear (map (λ word. word.now) words.now)) }
+{
+    match words {
+        [begin, end] => clear(alloc, begin, end),
+        _ => Err(LineRefusal::Bad(Kind::Word)),
+    }
+}
+
+fn clear(alloc: Global, begin: &[u8], end: &[u8]) -> Result<Line, LineRefusal>
+    ensures { Says result (clear_line begin.now end.now) }
+{
+    let begin = bytes(alloc, begin)?;
+    let end = bytes(alloc, end)?;
+    let range = range(alloc, &begin, &end)?;
+    Ok(Line::Changes(Mutation::Clear(range)))
 }
 
 fn life_line(words: &[&[u8]]) -> Result<Line, LineRefusal>
@@ -175,28 +242,28 @@ fn ask_line(alloc: Global, words: &[&[u8]]) -> Result<Line, LineRefusal>
     ensures { Says result (ask_line (map (λ word. word.now) words.now)) }
 {
     match words {
-        [reader, request, key, at] if is_word(request, b"get") && is_at(at) => {
-            get(alloc, reader, key, &at[1..])
-        }
+        [reader, request @ ..] if is_request(request) => ask(alloc, reader, request),
         _ => Err(LineRefusal::Bad(Kind::Word)),
     }
 }
 
-// Whether the word is a version of the form `@V`.
-fn is_at(word: &[u8]) -> bool
-    ensures value { result ≡ is_at word.now }
-    ensures some { IsTrue result → 0 < length word.now }
-{
-    word.first() == Some(&b'@')
-}
-
-fn get(alloc: Global, reader: &[u8], key: &[u8], version: &[u8]) -> Result<Line, LineRefusal>
-    ensures { Says result (get_line reader.now key.now version.now) }
+fn ask(alloc: Global, reader: &[u8], request: &[&[u8]]) -> Result<Line, LineRefusal>
+    ensures { Says result (asked_by reader.now (map (λ word. word.now) request.now)) }
 {
     let reader = reader_number(reader)?;
-    let key = read_key(alloc, key)?;
-    let version = number(version, 0, MAX_VERSION)?;
-    Ok(Line::Asks(reader, Ask::Get(key, version)))
+    let ask = read_request(alloc, request)?;
+    Ok(Line::Asks(reader, ask))
+}
+
+// A request of no reader.
+fn last_line(alloc: Global, request: &[&[u8]]) -> Result<Line, LineRefusal>
+    ensures { Says result (last_line (map (λ word. word.now) request.now)) }
+{
+    if !is_request(request) {
+        return Err(LineRefusal::Bad(Kind::Word));
+    }
+    let ask = read_request(alloc, request)?;
+    Ok(Line::Asks(0, ask))
 }
 
 fn do_line(words: &[&[u8]]) -> Result<Line, LineRefusal>
@@ -256,5 +323,5 @@ fn repeated(step: Do, count: Option<&[u8]>) -> Result<Line, LineRefusal>
 fn reader_number(word: &[u8]) -> Result<u32, Kind>
     ensures { result ≡ number_field 1 64 word.now }
 {
-    Ok(number(word, 1, MAX_READERS)? as u32)
+    small_number(word, 1, MAX_READERS)
 }

@@ -1,5 +1,5 @@
-pub mod Appended
 pub mod Sessions
+pub mod Merging
 pub mod Steps
 pub mod Plays
 pub mod Reported

@@ -1,9 +1,9 @@
 -- The stages of a plain life stand for sound runs, and a schedule played out is the run that it makes.
 use Rattle.std.proofs.Common.{◌≡◌, ℕ, zero, suc, ◌+◌, ◌*◌, List, [], ◌∷◌, ◌++◌, drop, map, length, fold, true, false, cond, inl, inr, refl, sym, ap, ◌∙◌, subst, append-nil}
-use Rattle.std.proofs.lemmas.List.{length-map}
+use Rattle.std.proofs.lemmas.List.Sums.{fold-append}
 use Rattle.std.specs.List.{range_with_len}
 use Rattle.std.specs.Prelude.{Option, Some, None, MatchOption}
-use Rattle.st_fold.specs.declared.batch.Batch.{Batch}
+use Rattle.st_mutation.specs.declared.batch.Batch.{Batch}
 use Rattle.st_fold.specs.declared.plan.Act.{Act}
 use Rattle.st_fold.specs.declared.plan.Act.TheVariants as act
 use Rattle.st_fold.specs.declared.plan.Do.{Do}
@@ -17,10 +17,10 @@ use Rattle.st_fold.specs.declared.report.Event.TheVariants.{Applied}
 use Rattle.st_fold.specs.declared.request.Request.{Request}
 use Rattle.st_model.specs.Plain.{IsSound, IsSplit, fresh_opening, plain_state, first_to}
 use Rattle.st_model.specs.Schedule.{Session, Run, acted, answered_by, closing, do_line, do_once, first_run, is_open, life_of, poll, poll_first, poll_out, poll_through, polled, repeat}
-use Rattle.st_model.specs.Report.{IsLife}
+use Rattle.st_model.specs.Report.{IsLife, requests_of}
 use Rattle.st_model.specs.State.{Given, State}
-use Rattle.storage_tool.specs.Life.{Stage, applied, asked, asked_from, asked_through, at_rest, done, done_line, first_stage, played_out, unpolled, with_batch, EndsAs, IsPlayed, LeadsTo}
-use Rattle.storage_tool.proofs.Steps.{leads_from, leads_lines, leads_on, leads_rest}
+use Rattle.storage_tool.specs.Life.{Stage, applied, asked, asked_from, asked_out, asked_through, at_rest, done, done_line, first_stage, played_out, with_batch, EndsAs, IsPlayed, LeadsTo}
+use Rattle.storage_tool.proofs.Steps.{leads_from, leads_lines, leads_on, leads_rest, leads_through}
 
 -- what an act Apply does to a sound run
 abbrev pub ActsSoundly : Given → List Request → Type 0
@@ -134,9 +134,15 @@ module _ (given : Given) (asks : List Request) (acts : ActsSoundly given asks) (
       let rest = asks_from (reader + 1) n (asked_through reader stage) first.0 in
       (rest.0, rest.1 ∙ ap (λ run. fold (λ so_far r. poll_through given fresh_opening r so_far) run (range_with_len (reader + 1) n)) first.1)
 
-  asks_out : Plays (asked_from 1 64) (poll_out given fresh_opening)
+  asks_out : Plays asked_out (poll_out given fresh_opening)
   unfolding poll_out
-  asks_out = asks_from 1 64
+  asks_out stage stands =
+      let readers = asks_from 1 64 stage stands in
+      let ends = asks_through 0 (asked_from 1 64 stage) readers.0 in (
+        ends.0,
+        ends.1 ∙ ap (poll_through given fresh_opening 0) readers.1
+            ∙ sym (fold-append (λ so_far r. poll_through given fresh_opening r so_far) stage.run (range_with_len 1 64) (0 ∷ [])),
+      )
 
   -- the schedule played out is the run that it makes
   pub plays_out : (lines : List (Do × ℕ)) → Plays (played_out lines) (λ run. closing given fresh_opening (fold (do_line given fresh_opening) run lines))
@@ -186,7 +192,9 @@ leads-count old new leads = ap (λ stage. length stage.run.sessions) leads.1 ∙
 pub leads_out : (stage : Stage) (lines : List (Do × ℕ)) → LeadsTo stage (played_out lines stage)
 leads_out stage lines =
     leads_on stage (fold done_line stage lines) _ (leads_lines stage lines)
-    (leads_on (fold done_line stage lines) (at_rest (fold done_line stage lines)) _ (leads_rest (fold done_line stage lines)) (leads_from (at_rest (fold done_line stage lines)) 1 64))
+    (leads_on (fold done_line stage lines) (at_rest (fold done_line stage lines)) _ (leads_rest (fold done_line stage lines))
+    (leads_on (at_rest (fold done_line stage lines)) (asked_from 1 64 (at_rest (fold done_line stage lines))) _
+    (leads_from (at_rest (fold done_line stage lines)) 1 64) (leads_through (asked_from 1 64 (at_rest (fold done_line stage lines))) 0)))
 
 -- a life at its end has the sessions that it began with
 pub ends-count : (old new : Stage) (lines : List (Do × ℕ)) (how : Ending) → EndsAs old lines new how → length new.run.sessions ≡ length old.run.sessions
@@ -201,30 +209,26 @@ abbrev life_made : Run → Ending → Life
 life_made run how = record { opened = 0; trace = run.trace; answers = map answered_by run.sessions; ending = how }
 
 -- what the definitions say of the life that a stage at its end makes
-pub played : (given : Given) (plan : LifePlan) (new : Stage) (how : Ending) (acts : ActsSoundly given plan.asks) (polls : PollsSoundly given plan.asks)
-    → IsSound given plan.asks 0 (first_run fresh_opening plan) → Rises 0 given.log
-    → ((newest : ℕ) (run : Run) → IsSound given plan.asks newest run → IsLife given fresh_opening plan (life_of fresh_opening run ending.Faulted))
-    → EndsAs (first_stage given plan.asks) plan.dos new how
+pub played : (given : Given) (plan : LifePlan) (new : Stage) (how : Ending) (acts : ActsSoundly given (requests_of plan)) (polls : PollsSoundly given (requests_of plan))
+    → IsSound given (requests_of plan) 0 (first_run fresh_opening plan) → Rises 0 given.log
+    → ((newest : ℕ) (run : Run) → IsSound given (requests_of plan) newest run → IsLife given fresh_opening plan (life_of fresh_opening run ending.Faulted))
+    → EndsAs (first_stage given (requests_of plan)) plan.dos new how
     → IsPlayed given plan (record { opened = 0; trace = new.run.trace; answers = map answered_by new.run.sessions; ending = how })
 played given plan new ending.Closed acts polls begins rises faulted ends =
-    let stands : Stands given plan.asks acts polls (first_stage given plan.asks) =
+    let stands : Stands given (requests_of plan) acts polls (first_stage given (requests_of plan)) =
     record { given_is = refl; sound = begins; split = record { applied = []; whole = refl; below = tt; above = rises } } in
-    let whole = (plays_out given plan.asks acts polls plan.dos (first_stage given plan.asks) stands).1 in
+    let whole = (plays_out given (requests_of plan) acts polls plan.dos (first_stage given (requests_of plan)) stands).1 in
     inl (ap (λ (stage : Stage). life_made stage.run ending.Closed) ends ∙ ap (λ run. life_of fresh_opening run ending.Closed) whole)
 played given plan new ending.Killed acts polls begins rises faulted ends = absurd ends
 played given plan new ending.Faulted acts polls begins rises faulted ends =
-    let stands : Stands given plan.asks acts polls (first_stage given plan.asks) =
+    let stands : Stands given (requests_of plan) acts polls (first_stage given (requests_of plan)) =
     record { given_is = refl; sound = begins; split = record { applied = []; whole = refl; below = tt; above = rises } } in
-    let sound = (leads_soundly given plan.asks acts polls (first_stage given plan.asks) new stands ends).sound in
+    let sound = (leads_soundly given (requests_of plan) acts polls (first_stage given (requests_of plan)) new stands ends).sound in
     let life = faulted new.newest new.run sound in
     inr (refl, subst (λ trace. IsLife given fresh_opening plan (record { opened = 0; trace = trace; answers = map answered_by new.run.sessions; ending = ending.Faulted })) (append-nil new.run.trace) life)
 
 -- the stage that a life began with, and its lines, are those of the plan
-pub begun_so : (given : Given) (plan : LifePlan) (begun new : Stage) (lines : List (Do × ℕ)) (how : Ending) → begun ≡ first_stage given plan.asks → lines ≡ plan.dos → EndsAs begun lines new how
-    → EndsAs (first_stage given plan.asks) plan.dos new how
+pub begun_so : (given : Given) (plan : LifePlan) (begun new : Stage) (lines : List (Do × ℕ)) (how : Ending) → begun ≡ first_stage given (requests_of plan) → lines ≡ plan.dos → EndsAs begun lines new how
+    → EndsAs (first_stage given (requests_of plan)) plan.dos new how
 begun_so given plan begun new lines how e f ends =
     subst (λ stage. EndsAs stage plan.dos new how) e (subst (λ some. EndsAs begun some new how) f ends)
-
--- it ends with a session for each request
-pub asks-count : (given : Given) (plan : LifePlan) (new : Stage) (how : Ending) → EndsAs (first_stage given plan.asks) plan.dos new how → length new.run.sessions ≡ length plan.asks
-asks-count given plan new how ends = ends-count (first_stage given plan.asks) new plan.dos how ends ∙ length-map plan.asks unpolled

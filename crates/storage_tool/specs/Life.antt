@@ -1,6 +1,6 @@
 -- A life in the making, step by step.
-use Rattle.std.specs.Prelude.{◌≡◌, ◌⊎◌, ℕ, suc, zero, ◌+◌, ◌*◌, List, [], ◌∷◌, ◌++◌, length, drop, map, fold, Option, Some, None}
-use Rattle.st_fold.specs.declared.batch.Batch.{Batch}
+use Rattle.std.specs.Prelude.{◌≡◌, ◌⊎◌, ℕ, suc, zero, ◌+◌, ◌*◌, Bool, true, false, nat_lt, List, [], ◌∷◌, ◌++◌, length, drop, map, fold, Option, Some, None}
+use Rattle.st_mutation.specs.declared.batch.Batch.{Batch}
 use Rattle.st_fold.specs.declared.plan.Act.TheVariants as act
 use Rattle.st_fold.specs.declared.plan.Do.{Do}
 use Rattle.st_fold.specs.declared.plan.Do.TheVariants as step_of
@@ -89,9 +89,13 @@ unfoldable pub asked_from : ℕ → ℕ → Stage → Stage
 asked_from reader zero stage = stage
 asked_from reader (suc readers) stage = asked_from (reader + 1) readers (asked_through reader stage)
 
+-- the readers do so, and then the requests of the life's end are polled
+abbrev pub asked_out : Stage → Stage
+asked_out stage = asked_through 0 (asked_from 1 64 stage)
+
 -- the schedule as it is written, and then the closing
 abbrev pub played_out : List (Do × ℕ) → Stage → Stage
-played_out lines stage = asked_from 1 64 (at_rest (fold done_line stage lines))
+played_out lines stage = asked_out (at_rest (fold done_line stage lines))
 
 -- some steps lead from one stage to the other
 abbrev pub LeadsTo : Stage → Stage → Type 0
@@ -101,15 +105,21 @@ LeadsTo old new = (steps : List Do) × (new ≡ fold (λ stage step. done step s
 abbrev pub unpolled : Request → Session
 unpolled request = record { request = request; places = []; answer = None }
 
+-- whether the first of the second list comes before the first of the first list
+abbrev pub is_next : List Request → List Request → Bool
+is_next [] others = true
+is_next (request ∷ requests) [] = false
+is_next (request ∷ requests) (other ∷ others) = nat_lt other.number request.number
+
 -- the stage that a life begins with
 abbrev pub first_stage : Given → List Request → Stage
-first_stage given asks = record {
+first_stage given requests = record {
   given = given;
   newest = 0;
   left = given.log;
   run = record {
     trace = Opened 0 ∷ [];
-    sessions = map unpolled asks;
+    sessions = map unpolled requests;
   };
 }
 

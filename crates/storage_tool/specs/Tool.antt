@@ -1,5 +1,5 @@
 -- What a run of the tool promises of its report, of what it reads and of what it writes.
-use Rattle.std.specs.Prelude.{◌≡◌, ◌⊎◌, ℕ, ◌<◌, List, [], ◌∷◌, take, map, codes, Option, Some, None, Ok, MatchResult}
+use Rattle.std.specs.Prelude.{◌≡◌, ◌⊎◌, ℕ, ◌<◌, List, [], ◌∷◌, take, map, Option, Some, None, Ok, MatchResult}
 use Rattle.std.specs.Io.KnownBytes.{Appends, IsAtEnd}
 use Rattle.st_fold.specs.declared.plan.Kind.{Kind}
 use Rattle.st_fold.specs.declared.plan.Script.{Script}
@@ -13,13 +13,9 @@ use Rattle.st_io.specs.Source.{Takes}
 use Rattle.st_model.specs.Report.{IsDemanded, fresh, given_by, status_of}
 use Rattle.st_model.specs.Schedule.{play}
 use Rattle.st_script.specs.Reading.{script_of, max_bytes}
-use Rattle.storage_tool.specs.declared.report.Form.TheVariants as form
-use Rattle.storage_tool.specs.declared.report.Report.{Report}
-use Rattle.storage_tool.specs.Text.{text_of}
-
--- the words of the one command
-abbrev pub replay_words : List (List ℕ)
-replay_words = codes "replay" ∷ []
+use Rattle.st_report.specs.declared.report.Form.{Form}
+use Rattle.st_report.specs.declared.report.Report.{Report}
+use Rattle.st_report.specs.Text.{text_of}
 
 -- the lives that the written schedules of a script's lives make, where nothing fails
 abbrev pub played : Script → List Life
@@ -31,7 +27,12 @@ IsInterruption None = ⊥
 IsInterruption (Some fault.Words) = ⊥
 IsInterruption (Some (fault.Script line why)) = ⊥
 IsInterruption (Some (fault.Read faults)) = Unit {0}
+IsInterruption (Some (fault.Device faults)) = ⊥
+IsInterruption (Some (fault.Peer faults)) = ⊥
+IsInterruption (Some (fault.Damaged what)) = ⊥
 IsInterruption (Some fault.Memory) = Unit {0}
+IsInterruption (Some (fault.Full size limit)) = ⊥
+IsInterruption (Some (fault.Foreign what)) = ⊥
 
 -- A report on a script: one that the script demands of an empty store. Unless the run was interrupted, it has no fault,
 -- and its lives are those that the script's schedules make
@@ -53,7 +54,12 @@ HasNoLives None lives = Unit {0}
 HasNoLives (Some fault.Words) lives = lives ≡ []
 HasNoLives (Some (fault.Script line why)) lives = lives ≡ []
 HasNoLives (Some (fault.Read faults)) lives = lives ≡ []
+HasNoLives (Some (fault.Device faults)) lives = Unit {0}
+HasNoLives (Some (fault.Peer faults)) lives = Unit {0}
+HasNoLives (Some (fault.Damaged what)) lives = lives ≡ []
 HasNoLives (Some fault.Memory) lives = Unit {0}
+HasNoLives (Some (fault.Full size limit)) lives = Unit {0}
+HasNoLives (Some (fault.Foreign what)) lives = lives ≡ []
 
 -- the status is that of the fault, and a fault before the lives leaves none
 pub record IsConsistent (report : Report) : Type 0 where
@@ -66,20 +72,26 @@ IsOfScript None = Unit {0}
 IsOfScript (Some fault.Words) = ⊥
 IsOfScript (Some (fault.Script line why)) = Unit {0}
 IsOfScript (Some (fault.Read faults)) = ⊥
+IsOfScript (Some (fault.Device faults)) = Unit {0}
+IsOfScript (Some (fault.Peer faults)) = Unit {0}
+IsOfScript (Some (fault.Damaged what)) = Unit {0}
 IsOfScript (Some fault.Memory) = Unit {0}
+IsOfScript (Some (fault.Full size limit)) = Unit {0}
+IsOfScript (Some (fault.Foreign what)) = Unit {0}
 
--- the report of one life that was begun
-abbrev pub report_of : Life → Report
-report_of life = of life.ending
+-- the report of one life that was begun, in this form
+abbrev pub report_of : Form → Life → Report
+report_of shown life = of life.ending
   where
     of : Ending → Report
-    of ending.Closed = record { status = 0; fault = None; lives = life ∷ []; form = form.Answers }
-    of ending.Killed = record { status = 0; fault = None; lives = life ∷ []; form = form.Answers }
-    of ending.Faulted = record { status = 9; fault = Some fault.Memory; lives = life ∷ []; form = form.Answers }
+    of ending.Closed = record { status = 0; fault = None; lives = life ∷ []; form = shown }
+    of ending.Killed = record { status = 0; fault = None; lives = life ∷ []; form = shown }
+    of ending.Faulted = record { status = 9; fault = Some fault.Memory; lives = life ∷ []; form = shown }
 
--- a report on a script whose life was begun
-pub record IsReportOn (script : Script) (report : Report) : Type 0 where
+-- a report on a script whose life was begun, in this form
+pub record IsReportOn (script : Script) (shown : Form) (report : Report) : Type 0 where
   pub reports : ReportsScript script report
+  pub form : report.form ≡ shown
   pub consistent : IsConsistent report
   pub fault : IsOfScript report.fault
 
@@ -90,7 +102,12 @@ IsReadOut before now None = IsAtEnd now
 IsReadOut before now (Some (fault.Script line why)) = IsAtEnd now ⊎ ((n : ℕ) × (max_bytes < n) × Takes before now n)
 IsReadOut before now (Some fault.Words) = Unit {0}
 IsReadOut before now (Some (fault.Read faults)) = Unit {0}
+IsReadOut before now (Some (fault.Device faults)) = IsAtEnd now
+IsReadOut before now (Some (fault.Peer faults)) = IsAtEnd now
+IsReadOut before now (Some (fault.Damaged what)) = IsAtEnd now
 IsReadOut before now (Some fault.Memory) = Unit {0}
+IsReadOut before now (Some (fault.Full size limit)) = IsAtEnd now
+IsReadOut before now (Some (fault.Foreign what)) = IsAtEnd now
 
 -- a fault of the source is told only where its count rose, with the count now
 abbrev pub HasReadCause : ℕ → ℕ → Option Fault → Type 0
@@ -98,7 +115,12 @@ HasReadCause before now (Some (fault.Read faults)) = Rose before now × (faults 
 HasReadCause before now None = Unit {0}
 HasReadCause before now (Some fault.Words) = Unit {0}
 HasReadCause before now (Some (fault.Script line why)) = Unit {0}
+HasReadCause before now (Some (fault.Device faults)) = Unit {0}
+HasReadCause before now (Some (fault.Peer faults)) = Unit {0}
+HasReadCause before now (Some (fault.Damaged what)) = Unit {0}
 HasReadCause before now (Some fault.Memory) = Unit {0}
+HasReadCause before now (Some (fault.Full size limit)) = Unit {0}
+HasReadCause before now (Some (fault.Foreign what)) = Unit {0}
 
 -- What a sink holds is followed by the report's text, and the status is the report's. Or by a part of the text from its
 -- front: with status 5, which comes only where the sink's count of faults rose, or with 9 for want of memory

@@ -3,17 +3,20 @@ ghost use Rattle.std.specs.List.{list_any};
 ghost use Rattle.std.specs.Prelude.{◌≡◌, ◌+◌, ◌<◌, ◌≤◌, ◌++◌, ◌∷◌, [], map, vec_len, vec_capacity, false, true, length, take, fold, MatchOption, IfOk, OnOk, OnErr};
 ghost use Rattle.st_fold.specs.Plain.{IsPlainLife};
 ghost use Rattle.st_model.specs.Plain.{IsPlain, plain_state};
+ghost use Rattle.st_fold.specs.Reading.{version_of};
 ghost use Rattle.st_model.specs.Reply.{not_yet, reply};
+ghost use Rattle.st_model.specs.Report.{merged};
 ghost use Rattle.st_model.specs.Schedule.{answered_by, is_open, repeat};
 ghost use Rattle.st_model.specs.Session.{answer_to};
-ghost use Rattle.storage_tool.specs.Life.{applied, asked, asked_at, asked_from, asked_through, at_rest, done, done_line, first_stage, owning_all, played_out, unpolled, with_event, EndsAs, IsPlayed, LeadsTo};
+ghost use Rattle.storage_tool.specs.Life.{applied, asked, asked_at, asked_from, asked_out, asked_through, at_rest, done, done_line, first_stage, is_next, owning_all, played_out, unpolled, with_event, EndsAs, IsPlayed, LeadsTo};
 
 use st_fold::{
-    Act, Answer, Answered, Ask, Batch, Do, Ending, Event, Life, LifePlan, Request, Settings,
-    value_to,
+    Act, Answer, Answered, Ask, Do, Ending, Event, Life, LifePlan, Request, Settings, answer_to,
 };
 use st_list::Items;
+use st_mutation::Batch;
 use std::alloc::{AllocError, Global};
+use std::collections::VecDeque;
 use std::marker::Model;
 
 // A request, the places of its polls so far, and its answer once it has one.
@@ -33,6 +36,17 @@ impl Model for Session {
 }
 
 impl Session {
+    // The session of a request that wasn't polled yet.
+    fn new(alloc: Global, request: Request) -> Session
+        ensures { result ≡ unpolled request }
+    {
+        Session {
+            request,
+            places: Vec::new(alloc),
+            answer: None,
+        }
+    }
+
     fn is_open(&self, reader: u32) -> bool
         ensures { result ≡ is_open reader self.now }
     {
@@ -72,6 +86,7 @@ fn first_open(sessions: &[Session], reader: u32) -> Option<usize>
 // A life that was begun.
 #[derive(Drop)]
 struct Running<'a> {
+    alloc: Global,
     settings: Settings,
     log: &'a [Batch],
     // The greatest version that is applied.
@@ -98,17 +113,45 @@ impl<'a> Model for Running<'a> {
     } };
 }
 
-// The sessions of requests that weren't polled yet.
-fn unpolled(alloc: Global, asks: Vec<Request>) -> Result<Vec<Session>, AllocError>
-    ensures { IfOk result (λ sessions. sessions.items ≡ map unpolled asks.items) }
+// Whether the first of the others comes before the first request.
+fn is_next(requests: &VecDeque<Request>, others: &VecDeque<Request>) -> bool
+    ensures { result ≡ is_next requests.now.items others.now.items }
 {
-    asks.into_iter()
-        .map(|request| Session {
-            request,
-            places: Vec::new(alloc),
-            answer: None,
-        })
-        .collect(alloc)
+    match (requests.front(), others.front()) {
+        (None, _) => true,
+        (Some(_), None) => false,
+        (Some(request), Some(other)) => other.number < request.number,
+    }
+}
+
+// Takes the request that comes next in order of numbers.
+fn take_next(requests: &mut VecDeque<Request>, others: &mut VecDeque<Request>) -> Option<Request>
+    ensures { MatchOption result
+        (merged requests.old.items others.old.items ≡ [])
+        (λ next. merged requests.old.items others.old.items ≡ next ∷ merged requests.new.items others.new.items) }
+{
+    if is_next(requests, others) {
+        others.pop_front()
+    } else {
+        requests.pop_front()
+    }
+}
+
+// The sessions of all requests of a life, in order of their numbers.
+fn unpolled(
+    alloc: Global,
+    asks: Items<Request>,
+    lasts: Items<Request>,
+) -> Result<Vec<Session>, AllocError>
+    ensures { IfOk result (λ sessions. sessions.items ≡ map unpolled (merged asks lasts)) }
+{
+    let mut readers = VecDeque::from_vec(asks.into_vec());
+    let mut ends = VecDeque::from_vec(lasts.into_vec());
+    let mut sessions = Vec::new(alloc);
+    while let Some(request) = take_next(&mut readers, &mut ends) {
+        sessions.push(Session::new(alloc, request))?;
+    }
+    Ok(sessions)
 }
 
 // The answers of the sessions, in their order. A request that has no answer was stopped. There is room for all of them.
@@ -133,6 +176,16 @@ fn answered(sessions: Vec<Session>, room: Vec<Answered>) -> Items<Answered>
     Items::from_vec(answers)
 }
 
+// The version that is asked for.
+fn version_of(ask: &Ask) -> u64
+    ensures { result ≡ version_of ask.now }
+{
+    match ask {
+        Ask::Get(_, version) | Ask::Rows { version, .. } | Ask::Select { version, .. } => *version,
+        Ask::Watch(_, _) => 0,
+    }
+}
+
 impl<'a> Running<'a> {
     // Begins a life of an empty store, with room for its first event and its requests.
     fn begin(
@@ -141,19 +194,21 @@ impl<'a> Running<'a> {
         log: &'a [Batch],
         upto: u64,
         asks: Items<Request>,
+        lasts: Items<Request>,
     ) -> Result<Running<'a>, AllocError>
-        ensures { IfOk result (λ running. running ≡ first_stage (owning_all settings log.now upto) asks) }
+        ensures { IfOk result (λ running. running ≡ first_stage (owning_all settings log.now upto) (merged asks lasts)) }
     {
         let mut trace = Vec::new(alloc);
         trace.push(Event::Opened(0))?;
         Ok(Running {
+            alloc,
             settings,
             log,
             upto,
             newest: 0,
             left: log,
             trace,
-            sessions: unpolled(alloc, asks.into_vec())?,
+            sessions: unpolled(alloc, asks, lasts)?,
         })
     }
 
@@ -221,15 +276,12 @@ impl<'a> Running<'a> {
             (length session.now.places + 1)
             (reply self.now.given.log (plain_state self.now.newest) session.now.request.ask)) }
     {
-        let Ask::Get(key, version) = &session.request.ask;
-        if *version > self.newest {
+        let ask = &session.request.ask;
+        if version_of(ask) > self.newest {
             let polls = session.places.len() as u64 + 1;
             return Ok(self.future_version(polls));
         }
-        match value_to(self.log, key.bytes(), *version) {
-            Some(value) => Ok(Some(Answer::Value(value.clone()?))),
-            None => Ok(Some(Answer::Absent)),
-        }
+        Ok(Some(answer_to(self.alloc, self.log, ask)?))
     }
 
     // The answer after so many polls for a version that hasn't come.
@@ -340,7 +392,7 @@ impl<'a> Running<'a> {
     }
 
     // Polls the requests of all readers, one reader after the other.
-    fn poll_out(&mut self) -> Result<(), AllocError>
+    fn poll_readers(&mut self) -> Result<(), AllocError>
         ensures ok { OnOk result (self.new ≡ asked_from 1 64 self.old) }
         ensures err { OnErr result (LeadsTo self.old self.new) }
     {
@@ -348,6 +400,15 @@ impl<'a> Running<'a> {
             self.poll_through(reader)?;
         }
         Ok(())
+    }
+
+    // Polls the requests of all readers, and then those of the end.
+    fn poll_out(&mut self) -> Result<(), AllocError>
+        ensures ok { OnOk result (self.new ≡ asked_out self.old) }
+        ensures err { OnErr result (LeadsTo self.old self.new) }
+    {
+        self.poll_readers()?;
+        self.poll_through(0)
     }
 
     // The schedule as it is written, and then the closing.
@@ -381,14 +442,14 @@ pub(crate) fn play_life(
     let LifePlan {
         upto,
         asks,
-        lasts: _,
+        lasts,
         dos,
         cuts: _,
         peerfails: _,
         kill: _,
     } = plan;
-    let room = Vec::with_capacity(alloc, asks.len())?;
-    let mut running = Running::begin(alloc, settings, log, upto, asks)?;
+    let mut running = Running::begin(alloc, settings, log, upto, asks, lasts)?;
+    let room = Vec::with_capacity(alloc, running.sessions.len())?;
     let ending = running.play_to_end(dos.as_slice());
     Ok(running.end(ending, room))
 }

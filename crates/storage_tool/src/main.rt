@@ -1,19 +1,16 @@
 //! Replays a script on one storage server, and writes the transcript.
 #![tactic(auto)]
 
+mod command;
 mod life;
-mod report;
 #[cfg(test)]
 mod tests;
-mod text;
 mod tool;
 
-pub use report::{Form, Report};
 use st_io::{StdSink, StdSource};
 use std::alloc::AllocError;
 use std::process::ExitCode;
 use std::{env, io};
-pub use text::text;
 pub use tool::{Ended, tool};
 
 fn words(rt: &HostRuntime) -> io::Result<Vec<String>> {

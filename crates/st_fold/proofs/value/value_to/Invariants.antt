@@ -1,5 +1,4 @@
 use Rattle.std.proofs.Common.{◌≡◌, drop, fold}
-use Rattle.std.specs.Option.{option_copied}
 use Rattle.st_fold.specs.Map.{batches_to, folded, value_at}
 use Rattle.st_fold.proofs.Values.{value_by_batch}
 use Rattle.st_fold.proofs.value.value_to.Given as goal
@@ -7,5 +6,5 @@ use Rattle.st_fold.proofs.value.value_to.Given as goal
 -- the batches that are left lead to the value in the fold of all
 abbrev pub invariant-loop-batch : goal.invariant-loop-batch
 invariant-loop-batch l =
-    fold (value_by_batch l.key) (option_copied l.found) (batches_to l.version (drop l.batch-index l.log))
+    fold (value_by_batch l.key) l.found (batches_to l.version (drop l.batch-index l.log))
     ≡ value_at (folded l.log l.version) l.key

@@ -1,0 +1,9 @@
+pub use Rattle.st_model.specs.Pieces
+pub use Rattle.st_model.specs.Partition
+pub mod Spares
+pub mod Changes
+pub mod Blank
+pub mod Refusals
+pub mod Parts
+pub mod Begun
+pub mod Unserved

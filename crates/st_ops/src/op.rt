@@ -6,6 +6,8 @@ use bytes::Bytes;
 use std::alloc::{AllocError, AllocFailed};
 
 /// One operation of a payload.
+///
+/// A clone shares the bytes of keys and values.
 #[derive(Debug, Drop, PartialEq, Eq)]
 pub enum Op {
     /// The key has the value from now on.
@@ -18,6 +20,20 @@ pub enum Op {
     SnapEnd,
     /// The payload's end.
     Commit,
+}
+
+impl Clone for Op {
+    ghost is_clone = { λ op copy. copy ≡ op };
+
+    fn clone(&self) -> Result<Op, AllocError> {
+        Ok(match self {
+            Op::Set(key, value) => Op::Set(key.clone()?, value.clone()?),
+            Op::Clear(begin, end) => Op::Clear(begin.clone()?, end.clone()?),
+            Op::SnapItem(key, value) => Op::SnapItem(key.clone()?, value.clone()?),
+            Op::SnapEnd => Op::SnapEnd,
+            Op::Commit => Op::Commit,
+        })
+    }
 }
 
 /// Why bytes are no list of operations.

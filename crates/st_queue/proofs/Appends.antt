@@ -1,5 +1,5 @@
 -- What a disk reads as while a frame is appended, and afterwards.
-use Rattle.std.proofs.Common.{◌≡◌, ◌≤◌, ◌<◌, ◌+◌, ◌^◌, ℕ, zero, suc, List, [], ◌∷◌, ◌++◌, length, take, Option, Some, None, Result, Ok, Err, IsOk, OnOk, IsErrOf, inl, inr, ◌⊎◌, ⊎_elim, refl, sym, ◌∙◌, ap, subst, arith, length-append}
+use Rattle.std.proofs.Common.{◌≡◌, ◌≤◌, ◌<◌, ◌+◌, ◌^◌, ℕ, zero, suc, true, List, [], ◌∷◌, ◌++◌, length, take, Option, Some, None, Result, Ok, Err, IsOk, OnOk, IsErrOf, inl, inr, ◌⊎◌, ⊎_elim, refl, sym, ◌∙◌, ap, subst, arith, length-append}
 use Rattle.std.specs.Option.{option_map, ForSome}
 use Rattle.std.proofs.lemmas.List.{append-nil}
 use Rattle.std.proofs.lemmas.List.Sums.{sum_by_push}
@@ -8,7 +8,7 @@ use Rattle.st_disk.specs.FileState.{overwritten}
 use Rattle.st_disk.specs.Images.{IsTorn}
 use Rattle.st_disk.specs.History.{History, Files, of_file, with_file, seen}
 use Rattle.st_disk.specs.Moments.{LeavesOnly, ToldLeavesOnly, joined, started, weaker}
-use Rattle.st_queue.specs.Frames.{file_frames, generation, first_number}
+use Rattle.st_queue.specs.Frames.{file_frames, is_payload, generation, first_number}
 use Rattle.st_queue.specs.Place.{current, current_file, end_in, end_of, frames_size}
 use Rattle.st_queue.specs.Writing.{frame_bytes, after_put, appended, IsSynced, frames_now, frames_of, with_frame, frame_of, behind_frame, IsSettled, ToldSettled, told_frames, IsTornAt, LeavesTorn, HasFramesOrMore, Appends}
 use Rattle.st_queue.proofs.Ends.{IsEnd, same-take, same-number}
@@ -71,7 +71,7 @@ module _ (files : Files) (all : List Frame) (place : Place) (known : HasEnd file
         ∙ (λ i. Some (record { file = place.file; generation = made i; gate = 28 + frames_size (known.older ++ more); next = first i + length (known.older ++ more) }))
         ∙ ap (λ (p : Place). Some p) (sym is))
 
-module _ (h : History) (place : Place) (settled : IsSettled h (Some place)) (payload : List ℕ) (small : length payload < 2 ^ 32) (fits : place.next < 2 ^ 64) where
+module _ (h : History) (place : Place) (settled : IsSettled h (Some place)) (payload : List ℕ) (small : length payload < 2 ^ 32) (fits : place.next < 2 ^ 64) (listed : is_payload payload ≡ true) where
   abbrev files : Files
   files = seen h
 
@@ -164,7 +164,7 @@ module _ (h : History) (place : Place) (settled : IsSettled h (Some place)) (pay
       let same : take place.gate new ≡ take place.gate bytes = opening.before ∙ written-same in
       let inside : place.gate < length new = omega (arith, opening.no_shorter, written-long) in
       ⊎_elim (λ closed. inl (reads-same images new is same inside closed)) (λ open_is. inr (reads-more images new is same inside open_is))
-      (torn_gate place.file bytes known.older place.gate place.next at_end payload small fits new opening)
+      (torn_gate place.file bytes known.older place.gate place.next at_end payload small fits listed new opening)
 
   abbrev opened : List ℕ
   opened = overwritten place.gate (1 ∷ []) written
@@ -180,13 +180,13 @@ module _ (h : History) (place : Place) (settled : IsSettled h (Some place)) (pay
       ∙ with-with place.file opened written files
 
   opened-same : take place.gate opened ≡ take place.gate bytes
-  opened-same = opened-before place.file bytes known.older place.gate place.next at_end payload small fits
+  opened-same = opened-before place.file bytes known.older place.gate place.next at_end payload small fits listed
 
   opened-inside : place.gate < length opened
-  opened-inside = omega (arith, opened-long place.file bytes known.older place.gate place.next at_end payload small fits, written-long)
+  opened-inside = omega (arith, opened-long place.file bytes known.older place.gate place.next at_end payload small fits listed, written-long)
 
   opened-frames : file_frames place.file opened ≡ Ok (known.older ++ frame ∷ [])
-  opened-frames = frames-opened place.file bytes known.older place.gate place.next at_end payload small fits
+  opened-frames = frames-opened place.file bytes known.older place.gate place.next at_end payload small fits listed
 
   pub last-frames : frames_now last ≡ with_frame frame (frames_now h)
   last-frames = ap frames_of last-seen ∙ reads-more (with_file place.file opened files) opened refl opened-same opened-inside opened-frames
@@ -207,7 +207,7 @@ module _ (h : History) (place : Place) (settled : IsSettled h (Some place)) (pay
             ∙ sym (ap current last-seen);
       }
 
-module _ (place : Place) (payload : List ℕ) (small : length payload < 2 ^ 32) (fits : place.next < 2 ^ 64) where
+module _ (place : Place) (payload : List ℕ) (small : length payload < 2 ^ 32) (fits : place.next < 2 ^ 64) (listed : is_payload payload ≡ true) where
   abbrev Settled : Option History → Type 0
   Settled told = ForSome told (λ h. IsSettled h (Some place))
 
@@ -225,7 +225,7 @@ module _ (place : Place) (payload : List ℕ) (small : length payload < 2 ^ 32) 
 
   first : (h new : History) → IsSettled h (Some place) → LeavesOnly h new (LeavesTorn place.file (place.gate + 1) size (Some h)) → LeavesOnly h new (HasFramesOrMore (frame_of place payload) (Some h))
   first h new settled leaves =
-      weaker h new (LeavesTorn place.file (place.gate + 1) size (Some h)) (HasFramesOrMore (frame_of place payload) (Some h)) leaves (λ images torn. inl (body-reads h place settled payload small fits size images torn))
+      weaker h new (LeavesTorn place.file (place.gate + 1) size (Some h)) (HasFramesOrMore (frame_of place payload) (Some h)) leaves (λ images torn. inl (body-reads h place settled payload small fits listed size images torn))
 
   pub append-first : (told new : Option History) → ToldLeavesOnly told new (LeavesTorn place.file (place.gate + 1) size told) → Settled told → ToldLeavesOnly told new (HasFramesOrMore (frame_of place payload) told)
   append-first None new leaves settled = tt
@@ -244,24 +244,24 @@ module _ (place : Place) (payload : List ℕ) (small : length payload < 2 ^ 32) 
       both (Some new) leaves then =
           joined h (after_put place.file (place.gate + 1) (frame_bytes place.next payload) h) new (HasFramesOrMore (frame_of place payload) (Some h)) (first h (after_put place.file (place.gate + 1) (frame_bytes place.next payload) h) (settled h refl) leaves)
           (weaker (after_put place.file (place.gate + 1) (frame_bytes place.next payload) h) new (LeavesTorn place.file place.gate 1 (Some (after_put place.file (place.gate + 1) (frame_bytes place.next payload) h))) (HasFramesOrMore (frame_of place payload) (Some h)) then
-          (λ images torn. gate-reads h place (settled h refl) payload small fits images torn))
+          (λ images torn. gate-reads h place (settled h refl) payload small fits listed images torn))
 
   -- between the two
   pub append-middle : (told mid : Option History) → mid ≡ first_put told → Settled told → Settled mid × ToldSettled mid (Some place) × (told_frames mid ≡ told_frames told)
   append-middle None mid is settled = (λ h e. absurd (cc (is, e)), subst (λ (m : Option History). ToldSettled m (Some place)) (sym is) tt, ap told_frames is)
   append-middle (Some h) mid is settled =
-      let now = middle-settled h place (settled h refl) payload small fits in (
+      let now = middle-settled h place (settled h refl) payload small fits listed in (
         λ m e. subst (λ (h : History). IsSettled h (Some place)) (same_Some _ m (sym is ∙ e)) now,
         subst (λ (m : Option History). ToldSettled m (Some place)) (sym is) now,
-        ap told_frames is ∙ ap (λ (r : Reading). Some r) (middle-frames h place (settled h refl) payload small fits),
+        ap told_frames is ∙ ap (λ (r : Reading). Some r) (middle-frames h place (settled h refl) payload small fits listed),
       )
 
   pub append-ok : (told new : Option History) → new ≡ option_map (appended place payload) told → Settled told
       → ToldSettled new (Some (behind_frame place payload)) × (told_frames new ≡ option_map (with_frame (frame_of place payload)) (told_frames told))
   append-ok None new is settled = (subst (λ (n : Option History). ToldSettled n (Some (behind_frame place payload))) (sym is) tt, ap told_frames is)
   append-ok (Some h) new is settled = (
-    subst (λ (n : Option History). ToldSettled n (Some (behind_frame place payload))) (sym is) (last-settled h place (settled h refl) payload small fits),
-    ap told_frames is ∙ ap (λ (r : Reading). Some r) (last-frames h place (settled h refl) payload small fits),
+    subst (λ (n : Option History). ToldSettled n (Some (behind_frame place payload))) (sym is) (last-settled h place (settled h refl) payload small fits listed),
+    ap told_frames is ∙ ap (λ (r : Reading). Some r) (last-frames h place (settled h refl) payload small fits listed),
   )
 
   -- the three ends of an append
@@ -318,7 +318,7 @@ module _ (place : Place) (payload : List ℕ) (small : length payload < 2 ^ 32) 
 
   -- what the two writes ask of the disk
   pub first-begins : (told : Option History) → Settled told → ForSome told (λ h. place.gate + 1 ≤ length (of_file place.file (seen h)))
-  first-begins told settled h is = gate-inside h place (settled h is) payload small fits
+  first-begins told settled h is = gate-inside h place (settled h is) payload small fits listed
 
   pub gate-begins : (told : Option History) → Settled told → ForSome told (λ h. place.gate ≤ length (of_file place.file (seen h)))
-  gate-begins told settled h is = omega (arith, gate-inside h place (settled h is) payload small fits)
+  gate-begins told settled h is = omega (arith, gate-inside h place (settled h is) payload small fits listed)

@@ -7,7 +7,7 @@ use Rattle.st_num.specs.Numbers.{little_number-reads_back, length-bytes_low_firs
 use Rattle.st_num.specs.Number.{little_bytes, little_number}
 use Rattle.st_disk.specs.FileState.{overwritten}
 use Rattle.st_disk.specs.Images.{IsTorn}
-use Rattle.st_queue.specs.Frames.{Damage, is_frame, payload_length, frame_at, behind, frames_from, file_frames}
+use Rattle.st_queue.specs.Frames.{Damage, is_payload, is_frame, payload_of, payload_length, frame_at, behind, frames_from, file_frames}
 use Rattle.st_queue.specs.Writing.{frame_bytes}
 use Rattle.st_queue.proofs.FramesLemmas.{prefixed, next-closed, skipped}
 use Rattle.st_queue.proofs.Ends.{IsEnd, same-take, same-item}
@@ -68,20 +68,21 @@ module _ (file number place : ℕ) (payload rest : List ℕ) (small : length pay
   rest_is : drop (12 + length payload) all ≡ 0 ∷ rest
   rest_is = ap (λ (l : List ℕ). drop (12 + length payload) l) by_gate ∙ drop_at (lens ++ numbers ++ payload) (0 ∷ rest) (12 + length payload) (omega (arith, length-append (lens ++ numbers) payload, length-front))
 
-  is_there : is_frame number all ≡ true
-  is_there =
+  is_there : is_payload payload ≡ true → is_frame number all ≡ true
+  is_there listed =
       let room : nat_lt (12 + payload_length all) (length all) ≡ true = let lt : 12 + payload_length all < length all = omega (arith, count_is, length-append (frame_bytes number payload) rest, length-frame_bytes) in grind (arith, nat_tests) in
       let same : (little_number 8 (drop 4 all) == number) ≡ true = let e = number_is in grind (arith, nat_tests) in
-      λ i. room i && same i
+      let payload_there : payload_of all ≡ payload = ap (λ (n : ℕ). take n (drop 12 all)) count_is ∙ payload_is in
+      λ i. room i && same i && (ap is_payload payload_there ∙ listed) i
 
-  pub frame-behind_gate : frames_from file number place 0 (1 ∷ all) ≡ Ok (record { seq = number; file = file; at = place; payload = payload } ∷ [])
-  frame-behind_gate =
+  pub frame-behind_gate : is_payload payload ≡ true → frames_from file number place 0 (1 ∷ all) ≡ Ok (record { seq = number; file = file; at = place; payload = payload } ∷ [])
+  frame-behind_gate listed =
       let others : Result (List Frame) Damage = frames_from file (number + 1) (place + 1) (12 + payload_length all) all in
       let none : others ≡ Ok [] =
       skipped file (number + 1) (place + 1) (12 + payload_length all) all
       ∙ ap (λ (n : ℕ). frames_from file (number + 1) (place + 1 + (12 + n)) 0 (drop (12 + n) all)) count_is
       ∙ ap (λ (l : List ℕ). frames_from file (number + 1) (place + 1 + (12 + length payload)) 0 l) rest_is in
-      ap (λ (b : Bool). if b then behind (frame_at file place number all) others else Err (record { file = file; at = place })) is_there
+      ap (λ (b : Bool). if b then behind (frame_at file place number all) others else Err (record { file = file; at = place })) (is_there listed)
       ∙ ap (λ (r : Result (List Frame) Damage). behind (frame_at file place number all) r) none
       ∙ ap (λ (p : List ℕ). Ok (record { seq = number; file = file; at = place; payload = p } ∷ [])) (ap (λ (n : ℕ). take n (drop 12 all)) count_is ∙ payload_is)
 
@@ -98,12 +99,12 @@ module _ (file : ℕ) (bytes : List ℕ) (frames : List Frame) (gate next : ℕ)
 
   -- the gate is open, and a frame stands behind it
   pub open_there : (others payload rest : List ℕ) → take gate others ≡ take gate bytes → gate < length others → get_or others gate 0 ≡ 1 → drop (gate + 1) others ≡ frame_bytes next payload ++ rest
-      → length payload < 2 ^ 32 → next < 2 ^ 64 → file_frames file others ≡ Ok (frames ++ record { seq = next; file = file; at = gate; payload = payload } ∷ [])
-  open_there others payload rest same inside open_is behind_is small fits =
+      → length payload < 2 ^ 32 → next < 2 ^ 64 → is_payload payload ≡ true → file_frames file others ≡ Ok (frames ++ record { seq = next; file = file; at = gate; payload = payload } ∷ [])
+  open_there others payload rest same inside open_is behind_is small fits listed =
       let whole : drop gate others ≡ 1 ∷ (frame_bytes next payload ++ rest) = drop_more others gate 0 inside ∙ (λ i. open_is i ∷ behind_is i) in
       at_end.goes_on others same inside
       ∙ ap (λ (l : List ℕ). prefixed frames (frames_from file next gate 0 l)) whole
-      ∙ ap (λ (r : Result (List Frame) Damage). prefixed frames r) (frame-behind_gate file next gate payload rest small fits)
+      ∙ ap (λ (r : Result (List Frame) Damage). prefixed frames r) (frame-behind_gate file next gate payload rest small fits listed)
 
   -- while the frame is written behind the closed gate
   pub torn_body : (count : ℕ) (image : List ℕ) → IsTorn (gate + 1) count bytes image → file_frames file image ≡ Ok frames
@@ -111,7 +112,7 @@ module _ (file : ℕ) (bytes : List ℕ) (frames : List Frame) (gate next : ℕ)
       closed_there image (same-take (gate + 1) image bytes torn.before gate (omega arith)) (omega (arith, at_end.inside, torn.no_shorter))
       (λ open_is. at_end.shut (sym (same-item (gate + 1) image bytes torn.before gate (omega arith)) ∙ open_is))
 
-  module _ (payload : List ℕ) (small : length payload < 2 ^ 32) (fits : next < 2 ^ 64) where
+  module _ (payload : List ℕ) (small : length payload < 2 ^ 32) (fits : next < 2 ^ 64) (listed : is_payload payload ≡ true) where
     abbrev body : List ℕ
     body = frame_bytes next payload
 
@@ -147,7 +148,7 @@ module _ (file : ℕ) (bytes : List ℕ) (frames : List Frame) (gate next : ℕ)
         by_gate (get_or image gate 0 == 1) refl same inside
       where
         by_gate : (b : Bool) → (get_or image gate 0 == 1) ≡ b → take gate image ≡ take gate bytes → gate < length image → (file_frames file image ≡ Ok frames) ⊎ (file_frames file image ≡ Ok (frames ++ frame ∷ []))
-        by_gate true is same inside = inr (open_there image payload rest same inside (let e : get_or image gate 0 ≡ 1 = grind (arith, nat_tests) in e) (torn.behind ∙ written-behind) small fits)
+        by_gate true is same inside = inr (open_there image payload rest same inside (let e : get_or image gate 0 ≡ 1 = grind (arith, nat_tests) in e) (torn.behind ∙ written-behind) small fits listed)
         by_gate false is same inside = inl (closed_there image same inside (λ open_is. let yes : (get_or image gate 0 == 1) ≡ true = grind (arith, nat_tests) in false≢true (sym is ∙ yes)))
 
     -- once its gate is open
@@ -176,4 +177,4 @@ module _ (file : ℕ) (bytes : List ℕ) (frames : List Frame) (gate next : ℕ)
         let inside : gate < length opened = omega (arith, opened-long, written-inside) in
         let open_is : get_or opened gate 0 ≡ 1 = sym (ap (λ (n : ℕ). get_or opened n 0) here) ∙ sym (get_or-drop gate opened 0 0) ∙ ap (λ (l : List ℕ). get_or l 0 0) opened-from in
         let behind_is : drop (gate + 1) opened ≡ body ++ rest = sym (drop-drop 1 gate opened) ∙ ap (λ (l : List ℕ). drop 1 l) opened-from ∙ written-behind in
-        open_there opened payload rest opened-before inside open_is behind_is small fits
+        open_there opened payload rest opened-before inside open_is behind_is small fits listed

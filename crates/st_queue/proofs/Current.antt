@@ -193,12 +193,13 @@ length-size [] = omega arith
 length-size (frame ∷ frames) = omega (arith, length-size frames, sum_by-cons (λ (f : Frame). 13 + length f.payload) frame frames)
 
 -- the numbers of a file's end
-pub end-fits : (file : ℕ) (bytes : List ℕ) (frames : List Frame) → is_live bytes ≡ true → file_frames file bytes ≡ Ok frames → (28 + frames_size frames < length bytes) × (first_number bytes + length frames ≤ 2 ^ 62 + (28 + frames_size frames))
+pub end-fits : (file : ℕ) (bytes : List ℕ) (frames : List Frame) → is_live bytes ≡ true → file_frames file bytes ≡ Ok frames
+    → (28 + frames_size frames < length bytes) × (first_number bytes + length frames ≤ 2 ^ 62 + (28 + frames_size frames)) × (generation bytes ≤ 2 ^ 62)
 end-fits file bytes frames live is =
     let long : 29 ≤ length bytes = leb-true 29 (length bytes) (and-left (nat_le 29 (length bytes)) (is_open (get_or bytes 0 0)) live) in
     let known = ends file bytes frames long is in
-    let small : first_number bytes ≤ 2 ^ 62 = sound (has_header bytes) refl is in
-    (known.inside, omega (arith, length-size frames))
+    let small = sound (has_header bytes) refl is in
+    (known.inside, omega (arith, small.1, length-size frames), small.0)
   where
     and-left : (a b : Bool) → (a && b) ≡ true → a ≡ true
     and-left true b both = refl
@@ -208,9 +209,12 @@ end-fits file bytes frames live is =
     and-right true b both = both
     and-right false b both = absurd (false≢true both)
 
-    sound : (b : Bool) → has_header bytes ≡ b → (if b then frames_from file (first_number bytes) 28 0 (drop 28 bytes) else Err (record { file = file; at = 1 })) ≡ Ok frames → first_number bytes ≤ 2 ^ 62
+    sound : (b : Bool) → has_header bytes ≡ b → (if b then frames_from file (first_number bytes) 28 0 (drop 28 bytes) else Err (record { file = file; at = 1 })) ≡ Ok frames → (generation bytes ≤ 2 ^ 62) × (first_number bytes ≤ 2 ^ 62)
     sound true has e =
-        leb-true (first_number bytes) (2 ^ 62) (and-right (nat_le (generation bytes) (2 ^ 62)) (nat_le (first_number bytes) (2 ^ 62)) (and-right (starts_with nat_eq (drop 1 bytes) mark) (nat_le (generation bytes) (2 ^ 62) && nat_le (first_number bytes) (2 ^ 62)) has))
+        let both : (nat_le (generation bytes) (2 ^ 62) && nat_le (first_number bytes) (2 ^ 62)) ≡ true = and-right (starts_with nat_eq (drop 1 bytes) mark) (nat_le (generation bytes) (2 ^ 62) && nat_le (first_number bytes) (2 ^ 62)) has in (
+          leb-true (generation bytes) (2 ^ 62) (and-left (nat_le (generation bytes) (2 ^ 62)) (nat_le (first_number bytes) (2 ^ 62)) both),
+          leb-true (first_number bytes) (2 ^ 62) (and-right (nat_le (generation bytes) (2 ^ 62)) (nat_le (first_number bytes) (2 ^ 62)) both),
+        )
     sound false has e = absurd (cc (e))
 
 module _ (z o : List ℕ) (live : is_live z ≡ true) (live_one : is_live o ≡ true) where

@@ -9,7 +9,7 @@ use Rattle.std.proofs.lemmas.List.Sums.{sum_by-cons}
 use borrow.Author.Tests.{ltb-true}
 use Rattle.st_num.specs.Numbers.{little_from-take}
 use Rattle.st_num.specs.Number.{little_number}
-use Rattle.st_queue.specs.Frames.{Damage, mark, generation, first_number, has_header, is_open, is_frame, payload_length, frame_at, behind, frames_from, file_frames}
+use Rattle.st_queue.specs.Frames.{Damage, mark, generation, first_number, has_header, is_open, is_payload, is_whole, is_frame, payload_of, payload_length, frame_at, behind, frames_from, file_frames}
 use Rattle.st_queue.specs.Place.{frames_size}
 use Rattle.st_queue.proofs.FramesLemmas.{prefixed}
 use Rattle.st_queue.specs.declared.frame.Frame.{Frame}
@@ -48,8 +48,11 @@ module _ (m : ℕ) (xs ys : List ℕ) (same : take m xs ≡ take m ys) where
       let numbers : little_number 8 (drop 4 xs) ≡ little_number 8 (drop 4 ys) = same-number 8 4 (omega arith) in
       let room : nat_lt (12 + payload_length ys) (length ys) ≡ true = let lt : 12 + payload_length ys < length ys = omega arith in grind (arith, nat_tests) in
       let payloads : take (payload_length ys) (drop 12 ys) ≡ take (payload_length xs) (drop 12 xs) =
-      ap (λ (n : ℕ). take n (drop 12 ys)) count ∙ sym (same-slice (payload_length xs) 12 (omega arith)) in (
-        ap (λ (b : Bool). b && (little_number 8 (drop 4 ys) == number)) room ∙ ap (λ (n : ℕ). n == number) (sym numbers) ∙ and-right (nat_lt (12 + payload_length xs) (length xs)) _ has,
+      ap (λ (n : ℕ). take n (drop 12 ys)) count ∙ sym (same-slice (payload_length xs) 12 (omega arith)) in
+      let was_whole : is_whole number xs ≡ true = and-left (is_whole number xs) (is_payload (payload_of xs)) has in
+      let whole : is_whole number ys ≡ true =
+      ap (λ (b : Bool). b && (little_number 8 (drop 4 ys) == number)) room ∙ ap (λ (n : ℕ). n == number) (sym numbers) ∙ and-right (nat_lt (12 + payload_length xs) (length xs)) _ was_whole in (
+        (λ i. whole i && is_payload (payloads i)) ∙ and-right (is_whole number xs) (is_payload (payload_of xs)) has,
         count,
         λ file place. ap (λ (p : List ℕ). record { seq = number; file = file; at = place; payload = p }) payloads,
       )
@@ -133,7 +136,8 @@ module _ (file number place gate : ℕ) (bytes : List ℕ) (frames : List Frame)
   closes-some : (rest : Result (List Frame) Damage) → frames_from file (number + 1) (place + 1) (12 + payload_length bytes) bytes ≡ rest → is_open gate ≡ true → is_frame number bytes ≡ true
       → behind (frame_at file place number bytes) rest ≡ Ok frames → Closes file number place 0 (gate ∷ bytes) frames
   closes-some (Ok rest) rest_is opened has is =
-      let room : nat_lt (12 + payload_length bytes) (length bytes) ≡ true = and-left (nat_lt (12 + payload_length bytes) (length bytes)) _ has in
+      let room : nat_lt (12 + payload_length bytes) (length bytes) ≡ true =
+      and-left (nat_lt (12 + payload_length bytes) (length bytes)) _ (and-left (is_whole number bytes) (is_payload (payload_of bytes)) has) in
       subst (λ (l : List Frame). Closes file number place 0 (gate ∷ bytes) l) (one_list (behind (frame_at file place number bytes) (Ok rest)) (frame_at file place number bytes ∷ rest) frames refl is)
       (closes-frame file number place gate bytes rest opened has (ih rest rest_is (omega (arith, ltb-true (12 + payload_length bytes) (length bytes) room))))
   closes-some (Err damage) rest_is opened has is = absurd (cc (is))

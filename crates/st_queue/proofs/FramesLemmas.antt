@@ -7,7 +7,7 @@ use Rattle.std.proofs.lemmas.Option.{same_Some}
 use Rattle.std.proofs.lemmas.List.{append-nil, take_all, take_rest, drop-drop}
 use borrow.Author.Tests.{ltb-true}
 use Rattle.st_num.specs.Number.{number_at, little_number}
-use Rattle.st_queue.specs.Frames.{Damage, mark, generation, first_number, has_header, is_open, is_frame, payload_length, frame_at, behind, frames_from}
+use Rattle.st_queue.specs.Frames.{Damage, mark, generation, first_number, has_header, is_open, is_payload, is_whole, is_frame, payload_of, payload_length, frame_at, behind, frames_from}
 use Rattle.st_queue.specs.declared.frame.Frame.{Frame}
 
 -- these frames, and those behind them where they can be read
@@ -64,35 +64,32 @@ module _ (file number place : ℕ) (bytes : List ℕ) (gate : ℕ) (gate_is : ga
       ap (λ (l : List ℕ). frames_from file number place 0 l) whole
       ∙ ap (λ (b : Bool). if b then behind (frame_at file place number rest) (frames_from file (number + 1) (place + 1) (12 + payload_length rest) rest) else Err (record { file = file; at = place })) is
 
-  is_frame-some : (count : ℕ) → Some count ≡ (if is_frame number rest then Some (payload_length rest) else None) → (is_frame number rest ≡ true) × (count ≡ payload_length rest)
-  is_frame-some count is = elim (is_frame number rest) as (λ b. Some count ≡ (if b then Some (payload_length rest) else None) → (b ≡ true) × (count ≡ payload_length rest)) [
+  is_whole-some : (count : ℕ) → Some count ≡ (if is_whole number rest then Some (payload_length rest) else None) → (is_whole number rest ≡ true) × (count ≡ payload_length rest)
+  is_whole-some count is = elim (is_whole number rest) as (λ b. Some count ≡ (if b then Some (payload_length rest) else None) → (b ≡ true) × (count ≡ payload_length rest)) [
     | true ↦ λ e. (refl, same_Some count (payload_length rest) e)
     | false ↦ λ e. absurd (cc (e))
   ] is
 
-  is_frame-none : None ≡ (if is_frame number rest then Some (payload_length rest) else None) → is_frame number rest ≡ false
-  is_frame-none is = elim (is_frame number rest) as (λ b. None ≡ (if b then Some (payload_length rest) else None) → b ≡ false) [
-    | true ↦ λ e. absurd (cc (e))
-    | false ↦ λ e. refl
-  ] is
+  -- whether the payload, of the length that was found, is a list of operations
+  listed : (count : ℕ) (b : Bool) → Some count ≡ (if is_whole number rest then Some (payload_length rest) else None) → is_payload (take count (drop 12 rest)) ≡ b → is_frame number rest ≡ b
+  listed count b is payload_is =
+      let both = is_whole-some count is in
+      ap (λ (w : Bool). w && is_payload (payload_of rest)) both.0 ∙ ap (λ (n : ℕ). is_payload (take n (drop 12 rest))) (sym both.1) ∙ payload_is
 
-  pub next-damaged : None ≡ (if is_frame number rest then Some (payload_length rest) else None) → frames_from file number place 0 bytes ≡ Err (record { file = file; at = place })
-  next-damaged is = open_gate false (is_frame-none is)
-
-  pub next-inside : (count : ℕ) → Some count ≡ (if is_frame number rest then Some (payload_length rest) else None) → 12 + count < length rest
+  pub next-inside : (count : ℕ) → Some count ≡ (if is_whole number rest then Some (payload_length rest) else None) → 12 + count < length rest
   next-inside count is =
-      let both = is_frame-some count is in
+      let both = is_whole-some count is in
       let is_in : nat_lt (12 + payload_length rest) (length rest) ≡ true = and-left (nat_lt (12 + payload_length rest) (length rest)) _ both.0 in
       omega (arith, ltb-true (12 + payload_length rest) (length rest) is_in, both.1)
 
-  pub next-some : (count : ℕ) → Some count ≡ (if is_frame number rest then Some (payload_length rest) else None) → (frame : Frame) → frame ≡ record { seq = number; file = file; at = place; payload = take count (drop 12 rest) }
+  pub next-some : (count : ℕ) → Some count ≡ (if is_whole number rest then Some (payload_length rest) else None) → is_payload (take count (drop 12 rest)) ≡ true → (frame : Frame) → frame ≡ record { seq = number; file = file; at = place; payload = take count (drop 12 rest) }
       → frames_from file number place 0 bytes ≡ behind frame (frames_from file (number + 1) (place + (13 + count)) 0 (drop (13 + count) bytes))
-  next-some count is frame frame_is =
-      let both = is_frame-some count is in
+  next-some count is payload_is frame frame_is =
+      let both = is_whole-some count is in
       let place_is : place + 1 + (12 + count) ≡ place + (13 + count) = omega arith in
       let whole : bytes ≡ gate ∷ rest = split_first bytes some ∙ ap (λ (g : ℕ). g ∷ rest) (sym gate_is) in
       let rest_is : drop (12 + count) rest ≡ drop (13 + count) bytes = sym (ap (λ (l : List ℕ). drop (13 + count) l) whole ∙ ap (λ (n : ℕ). drop n (gate ∷ rest)) (let e : 13 + count ≡ suc (12 + count) = omega arith in e)) in
-      open_gate true both.0
+      open_gate true (listed count true is payload_is)
       ∙ ap (λ (n : ℕ). behind (record { seq = number; file = file; at = place; payload = take n (drop 12 rest) }) (frames_from file (number + 1) (place + 1) (12 + n) rest)) (sym both.1)
       ∙ ap (λ (f : Frame). behind f (frames_from file (number + 1) (place + 1) (12 + count) rest)) (sym frame_is)
       ∙ ap (λ (r : Result (List Frame) Damage). behind frame r) (skipped file (number + 1) (place + 1) (12 + count) rest

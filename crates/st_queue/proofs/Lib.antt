@@ -5,6 +5,11 @@ mod Crash
 mod Current
 mod Puts
 mod Appends
-mod Idle
+mod Shut
+mod Alone
+mod Numbers
+mod Pair
+mod Rising
+mod Turns
 mod Recycles
 mod Held

@@ -6,7 +6,8 @@ use Rattle.st_disk.specs.FileState.{FileState, IsImage, settled, with_bytes, ove
 use Rattle.st_disk.specs.Images.{IsTorn, image-settled, image-with_bytes, image-seen, sound-with_bytes, sound-settled}
 use Rattle.st_disk.specs.History.{History, Files, MayLeave, of_file, with_file, seen, after_write, after_sync, counted, IsPartlyWritten}
 use Rattle.st_disk.specs.Moments.{LeavesOnly, ToldLeavesOnly, started, goes_on, goes_on-write, goes_on-write_counted, goes_on-sync_counted}
-use Rattle.st_queue.specs.Writing.{IsSynced, IsTornAt, LeavesTorn, after_put}
+use Rattle.st_queue.specs.Place.{other_file}
+use Rattle.st_queue.specs.Writing.{IsSynced, IsTornAt, LeavesTorn, after_put, beside}
 
 -- a synced disk has one image
 pub image-synced : (h : History) → IsSynced h → (images : Files) → MayLeave h images → images ≡ seen h
@@ -20,6 +21,15 @@ pub seen-put : (file at : ℕ) (bytes : List ℕ) (h : History) → seen (after_
 unfolding after_put
 seen-put zero at bytes h = refl
 seen-put (suc file) at bytes h = refl
+
+pub beside-with : {X : Type 0} (file : ℕ) (x : X) (both : X × X) → of_file (other_file file) (with_file file x both) ≡ of_file (other_file file) both
+beside-with zero x both = refl
+beside-with (suc file) x both = refl
+
+-- the other file reads as before
+pub beside-put : (file at : ℕ) (bytes : List ℕ) (told : Option History) → beside file (option_map (after_put file at bytes) told) ≡ beside file told
+beside-put file at bytes None = refl
+beside-put file at bytes (Some h) = ap (λ (f : Files). Some (of_file (other_file file) f)) (seen-put file at bytes h) ∙ ap (λ (l : List ℕ). Some l) (beside-with file _ (seen h))
 
 pub synced-put : (file at : ℕ) (bytes : List ℕ) (h : History) → IsSynced h → IsSynced (after_put file at bytes h)
 unfolding after_put

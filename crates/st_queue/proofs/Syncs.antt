@@ -1,5 +1,5 @@
 -- What a crash may leave while both files are synced.
-use Rattle.std.proofs.Common.{◌≡◌, ℕ, Bool, ap, zero, suc, List, Option, Some, None, Result, IfSome, IsOk, refl, sym, ◌∙◌, subst}
+use Rattle.std.proofs.Common.{◌≡◌, ℕ, zero, suc, List, Option, Some, None, Result, IfSome, IsOk, refl, sym, ◌∙◌, subst}
 use Rattle.std.specs.Option.{option_map, ForSome}
 use Rattle.std.proofs.lemmas.Option.{same_Some}
 use Rattle.st_disk.specs.History.{History, Files, MayLeave, after_sync, counted, seen}
@@ -7,7 +7,7 @@ use Rattle.st_disk.specs.Images.{image-settled}
 use Rattle.st_disk.specs.FileState.{IsImage}
 use Rattle.st_disk.specs.Moments.{LeavesOnly, ToldLeavesOnly, started, goes_on, goes_on-sync_counted}
 use Rattle.st_queue.specs.Mounting.{IsImageOf, after_both}
-use Rattle.st_queue.specs.Place.{current, is_unshut}
+use Rattle.st_queue.specs.Place.{current}
 use Rattle.st_queue.specs.Reading.{IsReading}
 use Rattle.st_queue.specs.Writing.{frames_now, IsSettled}
 use Rattle.st_queue.specs.declared.place.Place.{Place}
@@ -63,8 +63,3 @@ pub both-synced : (told new : Option History) → new ≡ option_map after_both 
 both-synced None new is place known h e = absurd (cc (is, e))
 both-synced (Some old) new is place known h e =
     subst (λ (h : History). IsSettled h place) (same_Some (after_both old) h (sym is ∙ e)) (record { synced = refl; readable = known.0; ends = known.1 })
-
-pub mount-unshut : (told synced : Option History) → synced ≡ option_map after_both told → (zero_bytes : List ℕ) → IfSome synced (λ h. zero_bytes ≡ (seen h).0) → (unshut : Bool) → unshut ≡ is_unshut zero_bytes → IfSome told (λ h. unshut ≡ is_unshut (seen h).0)
-mount-unshut None synced is zero_bytes zero_is unshut e = tt
-mount-unshut (Some h) synced is zero_bytes zero_is unshut e =
-    let here : zero_bytes ≡ (seen h).0 = subst (λ (t : Option History). IfSome t (λ h. zero_bytes ≡ (seen h).0)) is zero_is in e ∙ ap is_unshut here

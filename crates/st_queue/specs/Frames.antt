@@ -1,9 +1,11 @@
 -- What the two files of a queue hold. A file has a gate at place 0, the mark and the format from place 1, its generation at
 -- 12, the number of its first frame at 20, and from 28 on its frames, each behind a gate, and a closed gate behind the last:
--- the gate, the payload's length in 4 bytes, the frame's number in 8, and the payload. All numbers are little endian.
-use Rattle.std.specs.Prelude.{◌+◌, ◌^◌, ◌==◌, ◌&&◌, ℕ, zero, suc, Bool, if◌then◌else◌, List, [], ◌∷◌, ◌++◌, length, take, drop, slice_index, nat_lt, nat_le, nat_eq, Result, Ok, Err}
+-- the gate, the payload's length in 4 bytes, the frame's number in 8, and the payload, which is a list of operations. All
+-- numbers are little endian.
+use Rattle.std.specs.Prelude.{◌+◌, ◌^◌, ◌==◌, ◌&&◌, ℕ, zero, suc, Bool, if◌then◌else◌, List, [], ◌∷◌, ◌++◌, length, take, drop, slice_index, nat_lt, nat_le, nat_eq, Result, Ok, Err, is_ok}
 use Rattle.std.specs.List.{starts_with}
 use Rattle.st_num.specs.Number.{little_number}
+use Rattle.st_ops.specs.Reading.{reading}
 use Rattle.st_queue.specs.declared.frame.Frame.{Frame}
 
 -- where the files have no reading
@@ -36,13 +38,24 @@ has_header bytes = starts_with nat_eq (drop 1 bytes) mark && (nat_le (generation
 abbrev pub payload_length : List ℕ → ℕ
 payload_length bytes = little_number 4 bytes
 
--- behind a frame's gate stand a frame with this number and the next gate
+abbrev pub payload_of : List ℕ → List ℕ
+payload_of bytes = take (payload_length bytes) (drop 12 bytes)
+
+-- the payload is a list of operations
+abbrev pub is_payload : List ℕ → Bool
+is_payload payload = is_ok (reading payload)
+
+-- behind a frame's gate stand the bytes of a frame with this number, and the next gate
+abbrev pub is_whole : ℕ → List ℕ → Bool
+is_whole number bytes = nat_lt (12 + payload_length bytes) (length bytes) && (little_number 8 (drop 4 bytes) == number)
+
+-- they are a frame
 abbrev pub is_frame : ℕ → List ℕ → Bool
-is_frame number bytes = nat_lt (12 + payload_length bytes) (length bytes) && (little_number 8 (drop 4 bytes) == number)
+is_frame number bytes = is_whole number bytes && is_payload (payload_of bytes)
 
 abbrev pub frame_at : ℕ → ℕ → ℕ → List ℕ → Frame
 frame_at file place number bytes =
-    record { seq = number; file = file; at = place; payload = take (payload_length bytes) (drop 12 bytes) }
+    record { seq = number; file = file; at = place; payload = payload_of bytes }
 
 -- one frame, and those behind it where they can be read
 abbrev pub behind : Frame → Result (List Frame) Damage → Result (List Frame) Damage

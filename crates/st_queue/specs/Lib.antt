@@ -1,5 +1,6 @@
 pub mod Frames
 pub mod Place
+pub mod Due
 pub mod Writing
 pub mod Prepared
 pub mod Queue
@@ -7,3 +8,4 @@ pub mod Reading
 pub mod Mounting
 pub use Rattle.st_disk.specs.History
 pub use Rattle.st_disk.specs.Moments
+pub use Rattle.st_ops.specs.Reading as OpsReading

@@ -40,3 +40,19 @@ IsOfReading (Damaged file at) = Unit {0}
 IsOfReading (DiskFault faults) = ⊥
 IsOfReading (Broken faults) = ⊥
 IsOfReading (Full length limit) = ⊥
+
+-- the disk failed, now or before, or memory is wanting
+abbrev pub IsOfEntering : QueueRefusal → Type 0
+IsOfEntering (DiskFault faults) = Unit {0}
+IsOfEntering (Broken faults) = Unit {0}
+IsOfEntering NoMemory = Unit {0}
+IsOfEntering (Damaged file at) = ⊥
+IsOfEntering (Full length limit) = ⊥
+
+-- or a frame is past the limit, or a file's number past its bound
+abbrev pub IsOfWriting : QueueRefusal → Type 0
+IsOfWriting (DiskFault faults) = Unit {0}
+IsOfWriting (Broken faults) = Unit {0}
+IsOfWriting NoMemory = Unit {0}
+IsOfWriting (Full length limit) = Unit {0}
+IsOfWriting (Damaged file at) = ⊥

@@ -1,5 +1,5 @@
 -- Where the current file of a queue ends, and what comes next.
-use Rattle.std.specs.Prelude.{ℕ, ◌+◌, ◌==◌, ◌||◌, nat_lt, if◌then◌else◌, Bool, List, length, slice_index, sum_by, Option, Some, None, Result, Ok, Err}
+use Rattle.std.specs.Prelude.{ℕ, zero, ◌+◌, ◌^◌, ◌==◌, ◌||◌, nat_lt, if◌then◌else◌, Bool, List, length, slice_index, sum_by, Option, Some, None, Result, Ok, Err}
 use Rattle.st_disk.specs.History.{Files, of_file}
 use Rattle.st_queue.specs.Frames.{Damage, is_live, is_open, generation, first_number, file_frames}
 use Rattle.st_queue.specs.declared.frame.Frame.{Frame}
@@ -31,7 +31,16 @@ end_in files (Some file) = end_of file (of_file file files) (file_frames file (o
 abbrev pub current : Files → Option Place
 current files = end_in files (current_file files)
 
--- The generation and the first number of the file that comes next.
+-- the other one of the two files
+abbrev pub other_file : ℕ → ℕ
+other_file zero = 1
+other_file file = 0
+
+-- The file that comes next, its generation and its first number.
+abbrev pub next_file : Option Place → ℕ
+next_file None = 0
+next_file (Some place) = other_file place.file
+
 abbrev pub next_generation : Option Place → ℕ
 next_generation None = 1
 next_generation (Some place) = place.generation + 1
@@ -39,6 +48,17 @@ next_generation (Some place) = place.generation + 1
 abbrev pub next_number : Option Place → ℕ
 next_number None = 0
 next_number (Some place) = place.next
+
+-- where the first frame of that file will stand
+abbrev pub next_place : Option Place → Place
+next_place current = record { file = next_file current; generation = next_generation current; gate = 28; next = next_number current }
+
+-- The number that no file may have, where the next one would have it: its generation, or else its first number.
+abbrev pub spent : Option Place → Option ℕ
+spent current =
+    if nat_lt (2 ^ 62) (next_generation current) then Some (next_generation current)
+    else if nat_lt (2 ^ 62) (next_number current) then Some (next_number current)
+    else None
 
 -- a file without a byte, or with an open gate, is shut before its header is written
 abbrev pub is_unshut : List ℕ → Bool

@@ -1,8 +1,9 @@
 -- What a reading of the files answers.
-use Rattle.std.specs.Prelude.{◌≡◌, ◌<◌, ◌≤◌, ◌+◌, ◌^◌, ℕ, List, [], length, drop, Option, Some, None, Result, Ok, Err, Vec}
+use Rattle.std.specs.Prelude.{◌≡◌, ◌<◌, ◌≤◌, ◌+◌, ◌^◌, ℕ, List, [], ◌∷◌, length, drop, Option, Some, None, Result, Ok, Err, Vec}
 use Rattle.std.specs.declared.alloc.Global.{Global}
 use Rattle.std.specs.Option.{ForSome}
 use Rattle.st_disk.specs.History.{Files}
+use Rattle.st_queue.specs.Due.{Knows}
 use Rattle.st_queue.specs.Frames.{Damage, behind, frames_from}
 use Rattle.st_queue.specs.Place.{current}
 use Rattle.st_queue.specs.Writing.{frames_of}
@@ -23,16 +24,23 @@ Answers reading (Err (Full length limit)) = ⊥
 
 -- the numbers of a place leave room for a frame behind it
 abbrev pub Fits : Place → Type 0
-Fits place = (place.file < 2) × (place.gate < 2 ^ 63) × (place.next ≤ 2 ^ 62 + place.gate)
+Fits place = (place.file < 2) × (place.gate < 2 ^ 63) × (place.next ≤ 2 ^ 62 + place.gate) × (place.generation ≤ 2 ^ 62)
 
--- the frames of two files and the end of their current one, or where they can't be read
+-- The frames of two files, the end of their current one and what is known of both, or where they can't be read.
 abbrev pub IsReading : Files → Result Reading QueueRefusal → Type 0
-IsReading files (Ok reading) = (frames_of files ≡ Ok reading.frames.items) × (reading.current ≡ current files) × ForSome reading.current Fits
+IsReading files (Ok reading) =
+    (frames_of files ≡ Ok reading.frames.items) × (reading.current ≡ current files) × ForSome reading.current Fits
+    × Knows files reading.unshut reading.older
 IsReading files (Err (Damaged file at)) = frames_of files ≡ Err (record { file = file; at = at })
 IsReading files (Err NoMemory) = Unit {0}
 IsReading files (Err (DiskFault faults)) = Unit {0}
 IsReading files (Err (Broken faults)) = Unit {0}
 IsReading files (Err (Full length limit)) = Unit {0}
+
+-- the numbers of these frames rise, from this one on
+abbrev pub Rises : ℕ → List Frame → Type 0
+Rises from [] = Unit {0}
+Rises from (frame ∷ frames) = (from ≤ frame.seq) × Rises (frame.seq + 1) frames
 
 -- What stands at a gate: nothing more, a frame and how far on the next gate is, or damage.
 abbrev pub IsNext : ℕ → ℕ → ℕ → List ℕ → Result (Option (Frame × ℕ)) QueueRefusal → Type 0

@@ -7,7 +7,7 @@ use Rattle.st_disk.specs.History.{History, Files, of_file, with_file, seen, afte
 use Rattle.st_disk.specs.Images.{IsTorn}
 use Rattle.st_disk.specs.Moments.{ToldLeavesOnly}
 use Rattle.st_queue.specs.Frames.{Damage, frames, mark}
-use Rattle.st_queue.specs.Place.{current, is_unshut}
+use Rattle.st_queue.specs.Place.{current, is_unshut, other_file}
 use Rattle.st_queue.specs.declared.frame.Frame.{Frame}
 use Rattle.st_queue.specs.declared.frame.QueueRefusal.{QueueRefusal}
 use Rattle.st_queue.specs.declared.frame.QueueRefusal.TheVariants.{NoMemory}
@@ -24,6 +24,10 @@ header_bytes generation first = mark ++ little_bytes 8 generation ++ little_byte
 -- one write to a file, and a sync of it
 unfoldable pub after_put : ℕ → ℕ → List ℕ → History → History
 after_put file at bytes h = counted (after_sync file (counted (after_write file at bytes h)))
+
+-- what the other file reads as
+abbrev pub beside : ℕ → Option History → Option (List ℕ)
+beside file told = option_map (λ h. of_file (other_file file) (seen h)) told
 
 -- The frame is on the disk before its gate is opened.
 unfoldable pub appended : Place → List ℕ → History → History
@@ -122,3 +126,7 @@ HasLess from (Err damage) left = left ≡ Err damage
 -- they have the frames that the disk had, less some that were discarded
 abbrev pub HasFramesLess : ℕ → Option History → Files → Type 0
 HasFramesLess from told images = IfSome told (λ h. HasLess from (frames_now h) (frames_of images))
+
+-- the disk reads as these frames, less some that were discarded
+abbrev pub ToldLess : ℕ → Option History → Option History → Type 0
+ToldLess from told new = IfSome new (λ h. HasFramesLess from told (seen h))

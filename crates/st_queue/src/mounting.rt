@@ -1,23 +1,24 @@
 // Reads a queue's disk.
 ghost use Rattle.std.specs.Prelude.{ℕ, ◌≡◌, ◌<◌, IsErrOf, IfOk, IfErr, OnOk, OnErr, IfSome};
+ghost use Rattle.std.specs.List.{AllByRecursion};
 ghost use Rattle.std.specs.Option.{ForSome, option_map};
 ghost use Rattle.st_disk.specs.History.{of_file, seen};
 ghost use Rattle.st_disk.specs.Moments.{ToldLeavesOnly};
 ghost use Rattle.st_queue.specs.declared.frame.QueueRefusal.TheVariants.{Damaged, DiskFault};
 ghost use Rattle.st_queue.specs.Mounting.{IsImageOf, after_both, HasFault, IsOfMount, IsOutside};
-ghost use Rattle.st_queue.specs.Place.{is_unshut};
-ghost use Rattle.st_queue.specs.Reading.{IsReading, Fits};
+ghost use Rattle.st_queue.specs.Place.{next_number};
+ghost use Rattle.st_queue.specs.Reading.{IsReading, Fits, Rises};
 
 use crate::QueueRefusal;
-use crate::reading::{Reading, is_unshut, read_files};
+use crate::reading::{Reading, read_files};
 use st_disk::Disk;
 use std::alloc::Global;
 
 /// Syncs both files and reads the frames of a queue. A crash at any moment leaves one of the images from before.
 pub(crate) fn read_disk<D: Disk>(alloc: Global, disk: &mut D) -> Result<Reading, QueueRefusal>
     ensures reads { IfSome (D.history disk.old) (λ h. IsReading (seen h) result) }
-    ensures unshut { IfOk result (λ reading. IfSome (D.history disk.old) (λ h.
-        reading.unshut ≡ is_unshut (seen h).0)) }
+    ensures numbers { IfOk result (λ reading. Rises 0 reading.frames.items) }
+    ensures next { IfOk result (λ reading. AllByRecursion (λ frame. frame.seq < next_number reading.current) reading.frames.items) }
     ensures fits { IfOk result (λ reading. ForSome reading.current Fits) }
     ensures err { IfErr result IsOfMount }
     ensures synced { OnOk result (D.history disk.new ≡ option_map after_both (D.history disk.old)) }
@@ -28,9 +29,7 @@ pub(crate) fn read_disk<D: Disk>(alloc: Global, disk: &mut D) -> Result<Reading,
     sync_both(disk)?;
     let zero = read_whole(alloc, disk, 0)?;
     let one = read_whole(alloc, disk, 1)?;
-    let mut reading = read_files(alloc, &zero, &one)?;
-    reading.unshut = is_unshut(&zero);
-    Ok(reading)
+    read_files(alloc, &zero, &one)
 }
 
 fn sync_both<D: Disk>(disk: &mut D) -> Result<(), QueueRefusal>

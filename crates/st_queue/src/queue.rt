@@ -1,12 +1,16 @@
 // A queue over a disk.
-ghost use Rattle.std.specs.Prelude.{◌≡◌, ◌≤◌, ◌^◌, ◌↔◌, ℕ, max, Some, None, Ok, Err, IsSome, IfOk, OnOk, OnErr, IfErr, IfSome, IsErrOf};
+ghost use Rattle.std.specs.Prelude.{◌≡◌, ◌<◌, ◌≤◌, ◌^◌, ◌↔◌, ℕ, max, Some, None, Ok, Err, IsSome, IsTrue, IfOk, OnOk, OnErr, IfErr, IfSome, IsErrOf};
+ghost use Rattle.std.specs.Bool.{OnFalse};
+ghost use Rattle.std.specs.List.{AllByRecursion};
 ghost use Rattle.std.specs.Option.{ForSome, option_map};
 ghost use Rattle.st_disk.specs.History.{risen, seen};
 ghost use Rattle.st_disk.specs.Moments.{ToldLeavesOnly};
 ghost use Rattle.st_queue.specs.declared.frame.QueueRefusal.TheVariants.{Broken, Damaged, DiskFault, Full};
-ghost use Rattle.st_queue.specs.Mounting.{HasFault, IsImageOf, IsOfMount, after_both};
-ghost use Rattle.st_queue.specs.Place.{current};
-ghost use Rattle.st_queue.specs.Reading.{IsReading};
+ghost use Rattle.st_queue.specs.Frames.{is_payload};
+ghost use Rattle.st_queue.specs.Mounting.{HasFault, IsImageOf, IsOfEntering, IsOfMount, IsOfWriting, after_both};
+ghost use Rattle.st_queue.specs.Due.{due_of};
+ghost use Rattle.st_queue.specs.Place.{current, next_file, next_generation, next_number, next_place};
+ghost use Rattle.st_queue.specs.Reading.{IsReading, Rises};
 
 use crate::mounting::read_disk;
 use crate::reading::Reading;
@@ -41,8 +45,8 @@ pub struct QueueMount<D> {
 }
 
 impl<D: Disk> Queue<D> {
-    ghost use Rattle.st_queue.specs.Queue.{IsBefore, IsKept, IsMounted, IsPast, after_refusal, first_place, is_due, with_current, with_prepared, with_discarded};
-    ghost use Rattle.st_queue.specs.Writing.{Appends, HasFramesLess, behind_frame, frames_now, recycled};
+    ghost use Rattle.st_queue.specs.Queue.{IsBefore, IsKept, IsMounted, IsPast, IsSpent, UnlessFailed, after_refusal, is_due, with_current, with_discarded, with_entered, with_prepared};
+    ghost use Rattle.st_queue.specs.Writing.{Appends, HasFramesLess, ToldLess, ToldSettled, behind_frame, frames_now, recycled};
     ghost use Rattle.st_queue.specs.Prepared.{Enters};
 
     /// Syncs both files and reads the frames. `swap` and `limit` are lengths of a file in bytes.
@@ -56,7 +60,10 @@ impl<D: Disk> Queue<D> {
         requires limit { limit ≤ 2 ^ 30 }
         ensures frames { IfOk result (λ mounted. IfSome (D.history disk) (λ h. frames_now h ≡ Ok mounted.1.items)) }
         ensures current { IfOk result (λ mounted. IfSome (D.history disk) (λ h. mounted.0.state.current ≡ current (seen h))) }
+        ensures numbers { IfOk result (λ mounted. Rises 0 mounted.1.items) }
+        ensures next { IfOk result (λ mounted. AllByRecursion (λ frame. frame.seq < next_number mounted.0.state.current) mounted.1.items) }
         ensures state { IfOk result (λ mounted. IsMounted swap limit mounted.0.state) }
+        ensures stands { IfOk result (λ mounted. ToldSettled (D.history mounted.0.disk) mounted.0.state.current) }
         ensures synced { IfOk result (λ mounted. D.history mounted.0.disk ≡ option_map after_both (D.history disk)) }
         ensures any_moment { IfOk result (λ mounted. ToldLeavesOnly (D.history disk) (D.history mounted.0.disk) (IsImageOf (D.history disk))) }
         ensures err { IfErr result (λ e. IsOfMount e.why) }
@@ -73,11 +80,13 @@ impl<D: Disk> Queue<D> {
                     frames,
                     current,
                     unshut,
+                    older,
                 } = reading;
                 let state = State {
                     current,
                     prepared: None,
                     unshut,
+                    older,
                     discarded: 0,
                     broken: None,
                     swap,
@@ -89,22 +98,37 @@ impl<D: Disk> Queue<D> {
         }
     }
 
-    /// Whether the next file is to be made ready and entered before a frame is appended.
+    /// Whether the next file is to be made ready and entered before a frame is appended: no file is live, or the current
+    /// one has `swap` bytes and the other one no frame that isn't discarded.
     pub fn due(&self) -> bool
         ensures due { result ≡ is_due self.now.state }
+        ensures files { self.now.state.broken ≡ None → ForSome (D.history self.now.disk) (λ h.
+            result ≡ due_of self.now.state.swap self.now.state.discarded (seen h)) }
+        ensures live { OnFalse result (IsSome self.now.state.current) }
+        ensures stands { self.now.state.broken ≡ None → ToldSettled (D.history self.now.disk) self.now.state.current }
     {
-        self.state.current.is_none()
+        state::is_due(&self.state)
     }
 
-    /// Makes the next file ready, where it is due.
+    /// Makes the next file ready, where it is due: shuts it, and writes its header behind the closed gate. The frames that
+    /// stood in it are discarded, and gone.
     pub fn recycle(&mut self) -> Result<(), QueueRefusal>
-        requires { self.old.state.broken ≡ None → self.old.state.current ≡ None }
+        requires { self.old.state.broken ≡ None → IsTrue (is_due self.old.state) }
+        ensures stands { self.new.state.broken ≡ None → ToldSettled (D.history self.new.disk) self.new.state.current }
         ensures any_moment { self.old.state.broken ≡ None → ToldLeavesOnly (D.history self.old.disk) (D.history self.new.disk)
             (HasFramesLess self.old.state.discarded (D.history self.old.disk)) }
         ensures broken { (faults : ℕ) → (result ≡ Err (Broken faults)) ↔ (self.old.state.broken ≡ Some faults) }
+        ensures full { (long limit : ℕ) → (result ≡ Err (Full long limit)) ↔ IsSpent self.old.state long limit }
         ensures untouched { IfErr result (λ refusal. IsBefore refusal → self.new.disk ≡ self.old.disk) }
-        ensures calls { OnOk result (D.history self.new.disk ≡ option_map (recycled 0 1 0) (D.history self.old.disk)) }
-        ensures ok { OnOk result (self.new.state ≡ with_prepared (Some first_place) self.old.state) }
+        ensures calls { OnOk result (D.history self.new.disk ≡ option_map (recycled (next_file self.old.state.current)
+            (next_generation self.old.state.current) (next_number self.old.state.current)) (D.history self.old.disk)) }
+        ensures frames { UnlessFailed result
+            (ToldLess self.old.state.discarded (D.history self.old.disk) (D.history self.new.disk)) }
+        ensures settled { UnlessFailed result (ToldSettled (D.history self.new.disk) self.old.state.current) }
+        ensures ok { OnOk result (self.new.state
+            ≡ with_prepared (Some (next_place self.old.state.current)) self.old.state) }
+        ensures untold { D.history self.old.disk ≡ None → self.new.state.broken ≡ None → D.history self.new.disk ≡ None }
+        ensures refuses { IfErr result IsOfWriting }
         ensures err { IfErr result (λ refusal. IsKept refusal self.old.state self.new.state) }
         ensures cause { HasFault (D.fault_count self.old.disk) (D.fault_count self.new.disk) result }
     {
@@ -114,11 +138,13 @@ impl<D: Disk> Queue<D> {
     /// Makes the file current that was made ready.
     pub fn enter_next(&mut self) -> Result<(), QueueRefusal>
         requires { self.old.state.broken ≡ None → IsSome self.old.state.prepared }
+        ensures stands { self.new.state.broken ≡ None → ToldSettled (D.history self.new.disk) self.new.state.current }
         ensures enters { self.old.state.broken ≡ None → ForSome self.old.state.prepared (λ place.
             Enters (D.history self.old.disk) (D.history self.new.disk) place result) }
         ensures broken { (faults : ℕ) → (result ≡ Err (Broken faults)) ↔ (self.old.state.broken ≡ Some faults) }
         ensures untouched { IfErr result (λ refusal. IsBefore refusal → self.new.disk ≡ self.old.disk) }
-        ensures ok { OnOk result (self.new.state ≡ with_current self.old.state.prepared self.old.state) }
+        ensures ok { OnOk result (self.new.state ≡ with_entered self.old.state) }
+        ensures refuses { IfErr result IsOfEntering }
         ensures err { IfErr result (λ refusal. self.new.state ≡ after_refusal refusal self.old.state) }
         ensures cause { HasFault (D.fault_count self.old.disk) (D.fault_count self.new.disk) result }
     {
@@ -127,7 +153,9 @@ impl<D: Disk> Queue<D> {
 
     /// Appends a frame to the current file, and answers its number. The frame is on the disk before its gate is opened.
     pub fn append(&mut self, payload: &[u8]) -> Result<u64, QueueRefusal>
-        requires { self.old.state.broken ≡ None → IsSome self.old.state.current }
+        requires live { self.old.state.broken ≡ None → IsSome self.old.state.current }
+        requires listed { IsTrue (is_payload payload.now) }
+        ensures stands { self.new.state.broken ≡ None → ToldSettled (D.history self.new.disk) self.new.state.current }
         ensures appends { self.old.state.broken ≡ None → ForSome self.old.state.current (λ place.
             Appends (D.history self.old.disk) (D.history self.new.disk) place payload.now result) }
         ensures number { IfOk result (λ seq. IfSome self.old.state.current (λ place. seq ≡ place.next)) }
@@ -136,6 +164,7 @@ impl<D: Disk> Queue<D> {
         ensures untouched { IfErr result (λ refusal. IsBefore refusal → self.new.disk ≡ self.old.disk) }
         ensures ok { OnOk result (self.new.state ≡ with_current
             (option_map (λ place. behind_frame place payload.now) self.old.state.current) self.old.state) }
+        ensures refuses { IfErr result IsOfWriting }
         ensures err { IfErr result (λ refusal. self.new.state ≡ after_refusal refusal self.old.state) }
         ensures cause { HasFault (D.fault_count self.old.disk) (D.fault_count self.new.disk) result }
     {

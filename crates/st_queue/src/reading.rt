@@ -1,21 +1,26 @@
 // Reads the frames of a file.
+ghost use Rattle.std.specs.List.{AllByRecursion};
 ghost use Rattle.std.specs.Option.{ForSome};
 ghost use Rattle.std.specs.Prelude.{ℕ, IfOk, IfErr, IsErrOf, Err, ◌≡◌, ◌<◌, ◌≤◌, ◌+◌, ◌^◌, ◌==◌, Ok, IsTrue, Some, None, if◌then◌else◌, length, drop};
 ghost use Rattle.st_num.specs.Number.{little_number};
-ghost use Rattle.st_queue.specs.Frames.{joined, goes_on, is_live, has_header, generation, first_number, is_frame, payload_length, frames_from, file_frames};
-ghost use Rattle.st_queue.specs.Place.{current, frames_size, end_of, is_unshut};
-ghost use Rattle.st_queue.specs.Reading.{Answers, IsNext, IsReading, Fits};
+ghost use Rattle.st_queue.specs.Frames.{joined, goes_on, is_live, has_header, generation, first_number, is_payload, is_whole, payload_length, frames_from, file_frames};
+ghost use Rattle.st_queue.specs.Place.{current, frames_size, end_of, is_unshut, next_number};
+ghost use Rattle.st_queue.specs.Due.{are_discarded, behind_last, is_released, older_frames};
+ghost use Rattle.st_queue.specs.Reading.{Answers, IsNext, IsReading, Fits, Rises};
 ghost use Rattle.st_queue.specs.Mounting.{IsOfReading};
-ghost use Rattle.st_queue.specs.declared.frame.QueueRefusal.TheVariants.{Damaged};
+ghost use Rattle.st_queue.specs.declared.frame.QueueRefusal.TheVariants.{Damaged, NoMemory};
 
+use crate::place::behind_last;
 use crate::{Frame, Payload, Place, QueueRefusal};
 use st_num::{take_u32, take_u64};
+use st_ops::OpsRefusal;
 use std::alloc::Global;
 
 // "STORQUE", and the format 1 in 4 bytes.
 pub(crate) const MARK: [u8; 11] = *b"STORQUE\x01\0\0\0";
 
-const MAX_NUMBER: u64 = 1 << 62;
+/// The greatest generation and the greatest first number of a file.
+pub(crate) const MAX_NUMBER: u64 = 1 << 62;
 
 const OPEN: u8 = 1;
 
@@ -25,8 +30,10 @@ pub struct Reading {
     pub frames: Vec<Frame>,
     /// The end of the current file, where one is live.
     pub current: Option<Place>,
-    /// File 0 has no byte, or its gate is open.
-    pub unshut: bool,
+    /// Of each file: it has no byte, or its gate is open.
+    pub unshut: (bool, bool),
+    /// Where both files are live and the older one has frames: the number behind its last frame.
+    pub older: Option<u64>,
 }
 
 /// The frames of a queue whose files have these bytes, and the end of its current file.
@@ -34,33 +41,44 @@ pub(crate) fn read_files(alloc: Global, zero: &[u8], one: &[u8]) -> Result<Readi
     requires zero { length zero.now < 2 ^ 63 }
     requires one { length one.now < 2 ^ 63 }
     ensures reads { IsReading (zero.now, one.now) result }
+    ensures numbers { IfOk result (λ reading. Rises 0 reading.frames.items) }
+    ensures next { IfOk result (λ reading. AllByRecursion (λ frame. frame.seq < next_number reading.current) reading.frames.items) }
     ensures err { IfErr result IsOfReading }
 {
+    let unshut = (is_unshut(zero), is_unshut(one));
     let zero_live = is_live(zero);
     if !is_live(one) {
         if zero_live {
-            return read_alone(alloc, 0, zero);
+            return read_alone(alloc, 0, zero, unshut);
         }
         return Ok(Reading {
             frames: Vec::new(alloc),
             current: None,
-            unshut: false,
+            unshut,
+            older: None,
         });
     }
     if !zero_live {
-        return read_alone(alloc, 1, one);
+        return read_alone(alloc, 1, one, unshut);
     }
-    read_both(alloc, zero, one)
+    read_both(alloc, zero, one, unshut)
 }
 
 // The one live file.
-fn read_alone(alloc: Global, file: u8, bytes: &[u8]) -> Result<Reading, QueueRefusal>
+fn read_alone(
+    alloc: Global,
+    file: u8,
+    bytes: &[u8],
+    unshut: (bool, bool),
+) -> Result<Reading, QueueRefusal>
     requires file { file < 2 }
     requires live { IsTrue (is_live bytes.now) }
     requires small { length bytes.now < 2 ^ 63 }
     ensures frames { IfOk result (λ reading. file_frames file bytes.now ≡ Ok reading.frames.items) }
     ensures end { IfOk result (λ reading. reading.current ≡ end_of file bytes.now (file_frames file bytes.now)) }
     ensures fits { IfOk result (λ reading. ForSome reading.current Fits) }
+    ensures unshut { IfOk result (λ reading. reading.unshut ≡ unshut) }
+    ensures older { IfOk result (λ reading. reading.older ≡ None) }
     ensures damage { (at place : ℕ) → IsErrOf result (Damaged at place)
         → file_frames file bytes.now ≡ Err (record { file = at; at = place }) }
     ensures err { IfErr result IsOfReading }
@@ -70,45 +88,57 @@ fn read_alone(alloc: Global, file: u8, bytes: &[u8]) -> Result<Reading, QueueRef
     Ok(Reading {
         frames,
         current,
-        unshut: false,
+        unshut,
+        older: None,
     })
 }
 
 // Two live files.
-fn read_both(alloc: Global, zero: &[u8], one: &[u8]) -> Result<Reading, QueueRefusal>
+fn read_both(
+    alloc: Global,
+    zero: &[u8],
+    one: &[u8],
+    unshut: (bool, bool),
+) -> Result<Reading, QueueRefusal>
     requires zero { IsTrue (is_live zero.now) }
     requires one { IsTrue (is_live one.now) }
     requires zero_small { length zero.now < 2 ^ 63 }
     requires one_small { length one.now < 2 ^ 63 }
+    requires unshut { unshut ≡ (is_unshut zero.now, is_unshut one.now) }
     ensures reads { IsReading (zero.now, one.now) result }
     ensures err { IfErr result IsOfReading }
 {
     let first = read_file(alloc, 0, zero)?;
     let second = read_file(alloc, 1, one)?;
-    let current = newer_end(zero, &first, one, &second);
+    let (newer, older) = both_ends(zero, &first, one, &second);
     let frames = join(zero, first, one, second)?;
     Ok(Reading {
         frames,
-        current: Some(current),
-        unshut: false,
+        current: Some(newer),
+        unshut,
+        older: behind_last(older),
     })
 }
 
-// The end of the newer of two live files with these frames.
-fn newer_end(zero: &[u8], first: &[Frame], one: &[u8], second: &[Frame]) -> Place
+// The ends of two live files with these frames, the newer one's first.
+fn both_ends(zero: &[u8], first: &[Frame], one: &[u8], second: &[Frame]) -> (Place, Place)
     requires zero { IsTrue (is_live zero.now) }
     requires one { IsTrue (is_live one.now) }
     requires zero_small { length zero.now < 2 ^ 63 }
     requires one_small { length one.now < 2 ^ 63 }
     requires first { file_frames 0 zero.now ≡ Ok first.now }
     requires second { file_frames 1 one.now ≡ Ok second.now }
-    ensures end { Some result ≡ current (zero.now, one.now) }
-    ensures fits { Fits result }
+    ensures newer { Some result.0 ≡ current (zero.now, one.now) }
+    ensures older { (discarded : ℕ) → is_released (behind_last result.1) discarded
+        ≡ are_discarded discarded (older_frames (zero.now, one.now)) }
+    ensures fits { Fits result.0 }
 {
-    if number(zero, 12) < number(one, 12) {
-        return end_of(1, one, second);
+    let zero_end = end_of(0, zero, first);
+    let one_end = end_of(1, one, second);
+    if zero_end.generation < one_end.generation {
+        return (one_end, zero_end);
     }
-    end_of(0, zero, first)
+    (zero_end, one_end)
 }
 
 // The end of a live file with these frames.
@@ -186,7 +216,7 @@ fn number(bytes: &[u8], at: usize) -> u64
     take_u64(bytes, at).unwrap_or(0)
 }
 
-pub(crate) fn is_unshut(bytes: &[u8]) -> bool
+fn is_unshut(bytes: &[u8]) -> bool
     ensures { result ≡ is_unshut bytes.now }
 {
     bytes.is_empty() || bytes[0] == OPEN
@@ -265,24 +295,38 @@ fn next_frame(
     if *gate != OPEN {
         return Ok(None);
     }
-    match frame_len(seq, behind) {
-        Some(count) => {
-            let payload = Payload::new(behind[12..12 + count].to_vec(alloc)?);
-            let frame = Frame {
-                seq,
-                file,
-                at,
-                payload,
-            };
-            Ok(Some((frame, 13 + count)))
-        }
-        None => Err(QueueRefusal::Damaged { file, at }),
+    let Some(count) = frame_len(seq, behind) else {
+        return Err(QueueRefusal::Damaged { file, at });
+    };
+    let payload = &behind[12..12 + count];
+    if !is_payload(alloc, payload)? {
+        return Err(QueueRefusal::Damaged { file, at });
+    }
+    let payload = Payload::new(payload.to_vec(alloc)?);
+    let frame = Frame {
+        seq,
+        file,
+        at,
+        payload,
+    };
+    Ok(Some((frame, 13 + count)))
+}
+
+// Whether the bytes are a list of operations.
+fn is_payload(alloc: Global, bytes: &[u8]) -> Result<bool, QueueRefusal>
+    ensures ok { IfOk result (λ listed. listed ≡ is_payload bytes.now) }
+    ensures err { IfErr result (λ refusal. refusal ≡ NoMemory) }
+{
+    match st_ops::decode(alloc, bytes) {
+        Ok(_) => Ok(true),
+        Err(OpsRefusal::BadOps { .. }) => Ok(false),
+        Err(OpsRefusal::NoMemory) => Err(QueueRefusal::NoMemory),
     }
 }
 
-// The payload's length, where a frame with this number and the next gate stand behind a gate.
+// The payload's length, where the bytes of a frame with this number and the next gate stand behind a gate.
 fn frame_len(number: u64, behind: &[u8]) -> Option<usize>
-    ensures { result ≡ (if is_frame number behind.now then Some (payload_length behind.now) else None) }
+    ensures { result ≡ (if is_whole number behind.now then Some (payload_length behind.now) else None) }
 {
     let count = take_u32(behind, 0)? as usize;
     let found = take_u64(behind, 4)?;

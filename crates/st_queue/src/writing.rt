@@ -1,15 +1,18 @@
 // Writes to a queue's disk.
-ghost use Rattle.std.specs.Prelude.{◌≡◌, ◌<◌, ◌≤◌, ◌+◌, ◌^◌, length, true, false, Some, None, IfOk, OnOk, IfErr, IsErrOf};
+ghost use Rattle.std.specs.Prelude.{◌≡◌, ◌<◌, ◌≤◌, ◌+◌, ◌^◌, length, true, false, Some, None, IsTrue, IfOk, OnOk, IfErr, IsErrOf};
 ghost use Rattle.std.specs.Option.{option_map, ForSome};
 ghost use Rattle.st_disk.specs.History.{of_file, seen};
 ghost use Rattle.st_disk.specs.Moments.{ToldLeavesOnly};
 ghost use Rattle.st_queue.specs.declared.frame.QueueRefusal.TheVariants.{NoMemory};
+ghost use Rattle.st_queue.specs.Frames.{is_payload};
 ghost use Rattle.st_queue.specs.Mounting.{HasFault, IsOutside};
-ghost use Rattle.st_queue.specs.Place.{is_unshut};
-ghost use Rattle.st_queue.specs.Prepared.{IsPrepared, Shuts, Heads, Enters};
-ghost use Rattle.st_queue.specs.Writing.{IsSynced, IsSettled, LeavesTorn, Appends, after_put, frame_bytes, header_bytes};
+ghost use Rattle.st_queue.specs.Place.{next_file, next_place, spent};
+ghost use Rattle.st_queue.specs.Prepared.{Enters, Heads, Shuts, ToldPrepared, ToldUnshut};
+ghost use Rattle.st_queue.specs.Reading.{Fits};
+ghost use Rattle.st_queue.specs.Writing.{IsSynced, IsSettled, LeavesTorn, Appends, after_put, beside, frame_bytes, header_bytes};
 
 use crate::mounting::fault;
+use crate::place::next_place;
 use crate::reading::MARK;
 use crate::{Place, QueueRefusal};
 use st_disk::{Disk, DiskRefusal};
@@ -46,8 +49,10 @@ pub(crate) fn append_frame<D: Disk>(
     requires gate { place.gate < 2 ^ 63 }
     requires next { place.next < 2 ^ 64 }
     requires small { length payload.now < 2 ^ 32 }
+    requires listed { IsTrue (is_payload payload.now) }
 
     ensures appends { Appends (D.history disk.old) (D.history disk.new) place payload.now result }
+    ensures beside { IsErrOf result NoMemory → beside place.file (D.history disk.new) ≡ beside place.file (D.history disk.old) }
     ensures err { IfErr result IsOutside }
     ensures cause { HasFault (D.fault_count disk.old) (D.fault_count disk.new) result }
 {
@@ -68,47 +73,54 @@ fn header_bytes(alloc: Global, generation: u64, first: u64) -> Result<Vec<u8>, A
     Ok(bytes)
 }
 
-/// Shuts file 0, where no file is live.
-pub(crate) fn shut<D: Disk>(disk: &mut D) -> Result<(), QueueRefusal>
-    requires settled { ForSome (D.history disk.old) (λ h. IsSettled h None) }
-    requires unshut { ForSome (D.history disk.old) (λ h. is_unshut (seen h).0 ≡ true) }
-    ensures shuts { Shuts (D.history disk.old) (D.history disk.new) result }
+/// Shuts the next file, where it has no byte or its gate is open.
+pub(crate) fn shut<D: Disk>(
+    disk: &mut D,
+    current: Option<Place>,
+    unshut: bool,
+) -> Result<(), QueueRefusal>
+    requires settled { ForSome (D.history disk.old) (λ h. IsSettled h current) }
+    requires fits { ForSome current Fits }
+    requires unshut { ToldUnshut (next_file current) unshut (D.history disk.old) }
+    ensures shuts { Shuts (D.history disk.old) (D.history disk.new) current result }
     ensures err { IfErr result IsOutside }
     ensures cause { HasFault (D.fault_count disk.old) (D.fault_count disk.new) result }
 {
-    put(disk, 0, 0, &[CLOSED])
+    if !unshut {
+        return Ok(());
+    }
+    put(disk, next_place(current).file, 0, &[CLOSED])
 }
 
-/// Writes the header of file 0 behind its closed gate, where no file is live.
+/// Writes the header of the next file behind its closed gate.
 pub(crate) fn write_header<D: Disk>(
     alloc: Global,
     disk: &mut D,
-    generation: u64,
-    first: u64,
+    current: Option<Place>,
 ) -> Result<(), QueueRefusal>
-    requires settled { ForSome (D.history disk.old) (λ h. IsSettled h None) }
-    requires shut { ForSome (D.history disk.old) (λ h. is_unshut (seen h).0 ≡ false) }
-    requires generation { generation ≤ 2 ^ 62 }
-    requires first { first ≤ 2 ^ 62 }
-    ensures heads { Heads (D.history disk.old) (D.history disk.new) generation first result }
+    requires settled { ForSome (D.history disk.old) (λ h. IsSettled h current) }
+    requires fits { ForSome current Fits }
+    requires shut { ToldUnshut (next_file current) false (D.history disk.old) }
+    requires unspent { spent current ≡ None }
+    ensures heads { Heads (D.history disk.old) (D.history disk.new) current result }
     ensures err { IfErr result IsOutside }
     ensures cause { HasFault (D.fault_count disk.old) (D.fault_count disk.new) result }
 {
-    let bytes = header_bytes(alloc, generation, first)?;
-    put(disk, 0, 1, &bytes)
+    let place = next_place(current);
+    let bytes = header_bytes(alloc, place.generation, place.next)?;
+    put(disk, place.file, 1, &bytes)
 }
 
-/// Opens the gate of file 0, which has its header, where no file is live.
-pub(crate) fn enter<D: Disk>(disk: &mut D, place: Place) -> Result<(), QueueRefusal>
-    requires settled { ForSome (D.history disk.old) (λ h. IsSettled h None) }
-    requires prepared { ForSome (D.history disk.old) (λ h. IsPrepared (seen h).0 place.generation place.next) }
-    requires file { place.file ≡ 0 }
-    requires gate { place.gate ≡ 28 }
-    ensures enters { Enters (D.history disk.old) (D.history disk.new) place result }
+/// Opens the gate of the next file, which has its header.
+pub(crate) fn enter<D: Disk>(disk: &mut D, current: Option<Place>) -> Result<(), QueueRefusal>
+    requires settled { ForSome (D.history disk.old) (λ h. IsSettled h current) }
+    requires fits { ForSome current Fits }
+    requires prepared { ToldPrepared (D.history disk.old) (next_place current) }
+    ensures enters { Enters (D.history disk.old) (D.history disk.new) (next_place current) result }
     ensures err { IfErr result IsOutside }
     ensures cause { HasFault (D.fault_count disk.old) (D.fault_count disk.new) result }
 {
-    put(disk, 0, 0, &[OPEN])
+    put(disk, next_place(current).file, 0, &[OPEN])
 }
 
 /// Writes to a file of a synced disk, and syncs it. A crash may leave any bytes in the range meanwhile.

@@ -14,4 +14,4 @@ overflow_add-result-2 c = let fits = end-fits c.args.file c.args.bytes.now c.arg
 pub returns-clause-fits : goal.returns-clause-fits
 returns-clause-fits c =
     let fits = end-fits c.args.file c.args.bytes.now c.args.frames.now c.requires.live c.requires.frames in
-    (c.requires.file, omega (arith, fits.0, c.size.ensures), omega (arith, fits.1, c.size.ensures, c.number-2.ensures))
+    (c.requires.file, omega (arith, fits.0, c.size.ensures), omega (arith, fits.1, c.size.ensures, c.number-2.ensures), omega (arith, fits.2, c.number.ensures))

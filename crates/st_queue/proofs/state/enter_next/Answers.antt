@@ -1,13 +1,32 @@
-use Rattle.std.proofs.Common.{◌≡◌, ◌∙◌, Some, None, Err, ap, rules}
+use Rattle.std.proofs.Common.{Err, ◌≡◌, ◌∙◌, Some, None, true, ap, rules}
+use Rattle.std.specs.Option.{option_map}
+use Rattle.st_disk.specs.History.{with_file}
+use Rattle.st_queue.specs.Place.{next_file, next_place}
+use Rattle.st_queue.specs.Writing.{ToldSettled, entered}
 use Rattle.st_queue.specs.declared.frame.QueueRefusal.{QueueRefusal}
-use Rattle.st_queue.proofs.Held.{holds-refused}
+use Rattle.st_queue.specs.declared.place.Place.{Place}
+use Rattle.st_queue.proofs.Held.{holds-entered, holds-refused, prepared-place}
 use Rattle.st_queue.proofs.state.enter_next.Goals as goal
 
 pub enter-requires-clause-prepared : goal.enter-requires-clause-prepared
 enter-requires-clause-prepared g c =
     let unbroken : c.args.state.now.broken ≡ None = search rules in
-    let is : c.args.state.now.prepared ≡ Some c.unwrap-place.result = search rules in
-    (c.requires.holds.ready unbroken c.unwrap-place.result is).1.prepared
+    let ready = prepared-place _ c.args.state.now c.requires.holds unbroken (c.requires.prepared unbroken) in ready.1
+
+pub returns-clause-holds : goal.returns-clause-holds
+returns-clause-holds g c =
+    let state = c.args.state.now in
+    let told = g.D.Disk.history c.args.disk.now in
+    let new = g.D.Disk.history c.enter.new.disk in
+    let unbroken : state.broken ≡ None = search rules in
+    let ready = prepared-place told state c.requires.holds unbroken (c.requires.prepared unbroken) in
+    let calls : new ≡ option_map (entered (next_file state.current)) told = search rules in
+    let settled : ToldSettled new (Some (next_place state.current)) = search rules in
+    let unshut_is : c.with_flag-state.result ≡ with_file (next_file state.current) true state.unshut = c.with_flag-state.ensures ∙ ap (λ (p : Place). with_file p.file true state.unshut) c.next_place.ensures in
+    rw (unshut_is, c.last_behind-state.ensures) (holds-entered told new state (next_place state.current) c.requires.holds unbroken ready.0 calls settled)
+
+pub enter-requires-clause-settled : goal.enter-requires-clause-settled
+enter-requires-clause-settled g c = let unbroken : c.args.state.now.broken ≡ None = search rules in c.requires.holds.settled unbroken
 
 pub returns-in-Err-clause-holds : goal.returns-in-Err-clause-holds
 returns-in-Err-clause-holds g c =

@@ -1,14 +1,16 @@
-use Rattle.std.proofs.Common.{None}
-use Rattle.st_queue.proofs.Appends.{settled-synced}
-use Rattle.st_queue.proofs.Recycles.{begins-zero, enters}
+use Rattle.std.proofs.Common.{◌≡◌, ◌∷◌, [], subst}
+use Rattle.std.specs.Option.{option_map}
+use Rattle.std.specs.Result.{OnOk}
+use Rattle.st_disk.specs.Moments.{ToldLeavesOnly}
+use Rattle.st_queue.specs.Writing.{after_put, LeavesTorn}
+use Rattle.st_queue.specs.declared.place.Place.{Place}
+use Rattle.st_queue.proofs.Recycles.{enters}
 use Rattle.st_queue.proofs.writing.enter.Goals as goal
-
-pub put-requires-clause-begins : goal.put-requires-clause-begins
-put-requires-clause-begins g c = begins-zero _
-
-pub put-requires-clause-synced : goal.put-requires-clause-synced
-put-requires-clause-synced g c = settled-synced None _ c.requires.settled
 
 pub returns-clause-enters : goal.returns-clause-enters
 returns-clause-enters g c =
-    enters c.args.place _ _ c.put.result c.requires.file c.requires.gate c.put.ensures.ok c.put.ensures.no_memory c.put.ensures.any_moment c.requires.settled c.requires.prepared
+    let told = g.D.Disk.history c.args.disk.now in
+    let new = g.D.Disk.history c.put.new.disk in
+    let ok = subst (λ (p : Place). OnOk c.put.result (new ≡ option_map (after_put p.file 0 (1 ∷ [])) told)) c.next_place.ensures c.put.ensures.ok in
+    let leaves = subst (λ (p : Place). ToldLeavesOnly told new (LeavesTorn p.file 0 1 told)) c.next_place.ensures c.put.ensures.any_moment in
+    enters c.args.current told c.requires.settled c.requires.prepared new c.put.result ok c.put.ensures.no_memory leaves

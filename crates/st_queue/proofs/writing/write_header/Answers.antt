@@ -1,26 +1,30 @@
-use Rattle.std.proofs.Common.{◌≡◌, ◌∙◌, List, ℕ, length, None, refl, subst, rules}
-use Rattle.std.specs.Option.{option_map}
+use Rattle.std.proofs.Common.{◌≡◌, ◌≤◌, ◌∙◌, List, ℕ, length, refl, ap, sym, subst, rules}
+use Rattle.std.specs.Option.{option_map, ForSome}
 use Rattle.std.specs.Result.{OnOk}
+use Rattle.st_disk.specs.History.{of_file, seen}
 use Rattle.st_disk.specs.Moments.{ToldLeavesOnly}
+use Rattle.st_queue.specs.Place.{next_place}
 use Rattle.st_queue.specs.Writing.{header_bytes, after_put, LeavesTorn}
-use Rattle.st_queue.proofs.Appends.{settled-synced}
-use Rattle.st_queue.proofs.Recycles.{begins-one, heads, heads-none}
+use Rattle.st_queue.specs.declared.place.Place.{Place}
+use Rattle.st_queue.proofs.Recycles.{head-begins, heads, heads-none}
 use Rattle.st_queue.proofs.writing.write_header.Goals as goal
 
 pub returns-in_err-bytes-clause-heads : goal.returns-in_err-bytes-clause-heads
-returns-in_err-bytes-clause-heads g c = heads-none c.args.generation c.args.first _ _ _ (search rules) refl c.requires.settled
+returns-in_err-bytes-clause-heads g c = heads-none c.args.current _ c.requires.settled _ _ (search rules) refl
 
 pub put-requires-clause-begins : goal.put-requires-clause-begins
-put-requires-clause-begins g c = begins-one _ c.requires.shut
-
-pub put-requires-clause-synced : goal.put-requires-clause-synced
-put-requires-clause-synced g c = settled-synced None _ c.requires.settled
+put-requires-clause-begins g c =
+    subst (λ (p : Place). ForSome (g.D.Disk.history c.args.disk.now) (λ h. 1 ≤ length (of_file p.file (seen h)))) (sym c.next_place-place.ensures) (head-begins c.args.current _ c.requires.settled c.requires.shut c.requires.unspent)
 
 pub returns-clause-heads : goal.returns-clause-heads
 returns-clause-heads g c =
     let told = g.D.Disk.history c.args.disk.now in
     let new = g.D.Disk.history c.put.new.disk in
-    let bytes_is : c.deref.result.now ≡ header_bytes c.args.generation c.args.first = c.deref.ensures.value ∙ c.in_ok-bytes.ensures in
-    let ok = subst (λ (l : List ℕ). OnOk c.put.result (new ≡ option_map (after_put 0 1 l) told)) bytes_is c.put.ensures.ok in
-    let leaves = subst (λ (l : List ℕ). ToldLeavesOnly told new (LeavesTorn 0 1 (length l) told)) bytes_is c.put.ensures.any_moment in
-    heads c.args.generation c.args.first told new c.put.result c.requires.generation c.requires.first ok c.put.ensures.no_memory leaves c.requires.settled c.requires.shut
+    let place_is = c.next_place-place.ensures in
+    let bytes_is : c.deref.result.now ≡ header_bytes (next_place c.args.current).generation (next_place c.args.current).next = c.deref.ensures.value ∙ c.in_ok-bytes.ensures ∙ ap (λ (p : Place). header_bytes p.generation p.next) place_is in
+    let ok = subst (λ (p : Place). OnOk c.put.result (new ≡ option_map (after_put p.file 1 c.deref.result.now) told)) place_is c.put.ensures.ok in
+    let leaves = subst (λ (p : Place). ToldLeavesOnly told new (LeavesTorn p.file 1 (length c.deref.result.now) told)) place_is c.put.ensures.any_moment in
+    heads c.args.current told c.requires.settled c.requires.shut c.requires.unspent new c.put.result
+    (subst (λ (l : List ℕ). OnOk c.put.result (new ≡ option_map (after_put (next_place c.args.current).file 1 l) told)) bytes_is ok)
+    c.put.ensures.no_memory
+    (subst (λ (l : List ℕ). ToldLeavesOnly told new (LeavesTorn (next_place c.args.current).file 1 (length l) told)) bytes_is leaves)

@@ -1,0 +1,7 @@
+mod Cases
+mod Gaps
+mod Above
+mod Replays
+mod Histories
+mod Refusals
+mod Mounts

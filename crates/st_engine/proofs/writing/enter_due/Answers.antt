@@ -1,0 +1,129 @@
+use Rattle.std.proofs.Common.{◌∙◌, ap, sym, Err, Some}
+use Rattle.std.proofs.lemmas.Bool.{false≢true}
+use Rattle.std.proofs.lemmas.Result.{err_from_is_err_and}
+use Rattle.std.specs.Option.{option_map}
+use Rattle.st_queue.specs.Place.{next_file, next_place}
+use Rattle.st_queue.specs.Writing.{entered, told_frames}
+use Rattle.st_engine.proofs.Refusals.{due-place, else-place, entering-writing, never-full, refused-frames, unbroken-before, untold-frames}
+use Rattle.st_queue.specs.declared.frame.QueueRefusal.{QueueRefusal}
+use Rattle.st_queue.specs.declared.frame.QueueRefusal.TheVariants.{Broken, Full}
+use Rattle.st_queue.specs.declared.state.State.{State}
+use Rattle.st_engine.proofs.Cases.{same_Err}
+use Rattle.st_engine.proofs.Histories.{less-now, joined-frames, leaves-less, all-less}
+use Rattle.st_engine.proofs.writing.enter_due.Goals as goal
+
+pub returns-in_err-recycle-clause-frames : goal.returns-in_err-recycle-clause-frames
+returns-in_err-recycle-clause-frames g c = λ old new. less-now _ _ _ _ (c.recycle.ensures.any_moment old) (c.recycle.ensures.stands new)
+
+pub returns-in_err-recycle-clause-broken : goal.returns-in_err-recycle-clause-broken
+returns-in_err-recycle-clause-broken g c = λ faults is.
+    let p = err_from_is_err_and c.from_residual.result c.from_residual.ensures.1 in
+    (c.recycle.ensures.broken faults).0 (c.in_err-recycle.was ∙ ap (λ (r : QueueRefusal). Err r) (sym p.2) ∙ sym p.1 ∙ is)
+
+pub returns-in_err-enter_next-clause-any_moment : goal.returns-in_err-enter_next-clause-any_moment
+returns-in_err-enter_next-clause-any_moment g c = λ old.
+    let ok = c.in_ok-recycle.ensures.ok in
+    let still = ap (λ (s : State). s.broken) ok ∙ old in
+    let less = less-now _ _ _ _ (c.recycle.ensures.any_moment old) (c.recycle.ensures.stands still) in
+    joined-frames _ _ _ _ (c.recycle.ensures.any_moment old) less (c.enter_next.ensures.enters still (next_place c.args.queue.now.state.current) (ap (λ (s : State). s.prepared) ok)).any_moment
+
+pub returns-in_err-enter_next-clause-frames : goal.returns-in_err-enter_next-clause-frames
+returns-in_err-enter_next-clause-frames g c = λ old new.
+    less-now _ _ _ _ (returns-in_err-enter_next-clause-any_moment g c old) (c.enter_next.ensures.stands new)
+
+pub returns-in_err-enter_next-clause-broken : goal.returns-in_err-enter_next-clause-broken
+returns-in_err-enter_next-clause-broken g c = λ faults is.
+    let p = err_from_is_err_and c.from_residual-in_err-enter_next.result c.from_residual-in_err-enter_next.ensures.1 in
+    sym (ap (λ (s : State). s.broken) c.in_ok-recycle.ensures.ok)
+    ∙ (c.enter_next.ensures.broken faults).0 (c.in_err-enter_next.was ∙ ap (λ (r : QueueRefusal). Err r) (sym p.2) ∙ sym p.1 ∙ is)
+
+pub returns-in_ok-enter_next-clause-any_moment : goal.returns-in_ok-enter_next-clause-any_moment
+returns-in_ok-enter_next-clause-any_moment g c = λ old.
+    let ok = c.in_ok-recycle.ensures.ok in
+    let still = ap (λ (s : State). s.broken) ok ∙ old in
+    let less = less-now _ _ _ _ (c.recycle.ensures.any_moment old) (c.recycle.ensures.stands still) in
+    joined-frames _ _ _ _ (c.recycle.ensures.any_moment old) less (c.enter_next.ensures.enters still (next_place c.args.queue.now.state.current) (ap (λ (s : State). s.prepared) ok)).any_moment
+
+pub returns-in_ok-enter_next-clause-frames : goal.returns-in_ok-enter_next-clause-frames
+returns-in_ok-enter_next-clause-frames g c = λ old new.
+    less-now _ _ _ _ (returns-in_ok-enter_next-clause-any_moment g c old) (c.enter_next.ensures.stands new)
+
+pub returns-else-due-clause-any_moment : goal.returns-else-due-clause-any_moment
+returns-else-due-clause-any_moment g c = λ old. leaves-less _ _ _ (c.due.ensures.stands old)
+
+pub returns-else-due-clause-frames : goal.returns-else-due-clause-frames
+returns-else-due-clause-frames g c = λ old new. all-less c.args.queue.now.state.discarded (g.D.Disk.history c.args.queue.now.disk)
+
+pub returns-in_err-recycle-clause-was_broken : goal.returns-in_err-recycle-clause-was_broken
+returns-in_err-recycle-clause-was_broken g c = let p = err_from_is_err_and c.from_residual.result c.from_residual.ensures.1 in
+    rw (p.1, p.2) (λ faults broken. same_Err c.in_err-recycle.field-0.0 (Broken faults) c.recycle.result c.in_err-recycle.was ((c.recycle.ensures.broken faults).1 broken))
+
+pub returns-in_err-enter_next-clause-was_broken : goal.returns-in_err-enter_next-clause-was_broken
+returns-in_err-enter_next-clause-was_broken g c = let p = err_from_is_err_and c.from_residual-in_err-enter_next.result c.from_residual-in_err-enter_next.ensures.1 in
+    rw (p.1, p.2) (λ faults broken. same_Err c.in_err-enter_next.field-0.0 (Broken faults) c.enter_next.result c.in_err-enter_next.was
+    ((c.enter_next.ensures.broken faults).1 (ap (λ (s : State). s.broken) c.in_ok-recycle.ensures.ok ∙ broken)))
+
+pub returns-in_err-recycle-clause-untold : goal.returns-in_err-recycle-clause-untold
+returns-in_err-recycle-clause-untold g c = c.recycle.ensures.untold
+
+pub returns-in_err-enter_next-clause-untold : goal.returns-in_err-enter_next-clause-untold
+returns-in_err-enter_next-clause-untold g c = λ none unbroken.
+    let refusal = c.in_err-enter_next.field-0.0 in
+    let after = sym (ap (λ (s : State). s.broken) c.in_err-enter_next.ensures.err) ∙ unbroken in
+    let mid = unbroken-before refusal c.recycle.new.self.state after in
+    let enters = c.enter_next.ensures.enters mid (next_place c.args.queue.now.state.current) (ap (λ (s : State). s.prepared) c.in_ok-recycle.ensures.ok) in
+    untold-frames _ _
+    (refused-frames _ _ c.enter_next.result refusal c.recycle.new.self.state c.in_err-enter_next.was (entering-writing refusal c.in_err-enter_next.ensures.refuses) (λ e. ap told_frames (enters.same e))
+    (λ before. ap (λ disk. told_frames (g.D.Disk.history disk)) (c.in_err-enter_next.ensures.untouched before)) after)
+    (c.recycle.ensures.untold none mid)
+
+pub returns-in_ok-enter_next-clause-untold : goal.returns-in_ok-enter_next-clause-untold
+returns-in_ok-enter_next-clause-untold g c = λ none unbroken.
+    let mid = sym (ap (λ (s : State). s.broken) c.in_ok-enter_next.ensures.ok) ∙ unbroken in
+    (c.in_ok-enter_next.ensures.enters mid (next_place c.args.queue.now.state.current) (ap (λ (s : State). s.prepared) c.in_ok-recycle.ensures.ok)).calls ∙ ap (option_map (entered (next_file c.args.queue.now.state.current))) (c.recycle.ensures.untold none mid)
+
+pub returns-else-due-clause-untold : goal.returns-else-due-clause-untold
+returns-else-due-clause-untold g c = λ none unbroken. none
+
+pub returns-in_err-recycle-clause-full : goal.returns-in_err-recycle-clause-full
+returns-in_err-recycle-clause-full g c = λ long limit is.
+    let p = err_from_is_err_and c.from_residual.result c.from_residual.ensures.1 in
+    record {
+      due = sym c.due.ensures.due ∙ c.if-due.true;
+      past = (c.recycle.ensures.full long limit).0 (c.in_err-recycle.was ∙ ap (λ (r : QueueRefusal). Err r) (sym p.2) ∙ sym p.1 ∙ is);
+    }
+
+pub returns-in_err-recycle-clause-spent : goal.returns-in_err-recycle-clause-spent
+returns-in_err-recycle-clause-spent g c = λ long limit no.
+    let p = err_from_is_err_and c.from_residual.result c.from_residual.ensures.1 in
+    p.1 ∙ ap (λ (r : QueueRefusal). Err r) (p.2 ∙ same_Err c.in_err-recycle.field-0.0 (Full long limit) c.recycle.result c.in_err-recycle.was ((c.recycle.ensures.full long limit).1 no.past))
+
+pub returns-in_err-enter_next-clause-full : goal.returns-in_err-enter_next-clause-full
+returns-in_err-enter_next-clause-full g c = λ long limit is.
+    let p = err_from_is_err_and c.from_residual-in_err-enter_next.result c.from_residual-in_err-enter_next.ensures.1 in
+    let refusal = c.in_err-enter_next.field-0.0 in
+    absurd (never-full refusal long limit c.in_err-enter_next.ensures.refuses (same_Err refusal (Full long limit) c.from_residual-in_err-enter_next.result (p.1 ∙ ap (λ (r : QueueRefusal). Err r) p.2) is))
+
+pub returns-in_err-enter_next-clause-spent : goal.returns-in_err-enter_next-clause-spent
+returns-in_err-enter_next-clause-spent g c = λ long limit no.
+    let full = (c.recycle.ensures.full long limit).1 no.past in let done = c.in_ok-recycle.was in absurd (cc (full, done))
+
+pub returns-in_err-enter_next-clause-refuses : goal.returns-in_err-enter_next-clause-refuses
+returns-in_err-enter_next-clause-refuses g c =
+    let p = err_from_is_err_and c.from_residual-in_err-enter_next.result c.from_residual-in_err-enter_next.ensures.1 in
+    rw (p.1, p.2) (entering-writing c.in_err-enter_next.field-0.0 c.in_err-enter_next.ensures.refuses)
+
+pub returns-in_ok-enter_next-clause-spent : goal.returns-in_ok-enter_next-clause-spent
+returns-in_ok-enter_next-clause-spent g c = λ long limit no.
+    let full = (c.recycle.ensures.full long limit).1 no.past in let done = c.in_ok-recycle.was in absurd (cc (full, done))
+
+pub returns-in_ok-enter_next-clause-ok : goal.returns-in_ok-enter_next-clause-ok
+returns-in_ok-enter_next-clause-ok g c =
+    ap (λ (s : State). s.current) c.in_ok-enter_next.ensures.ok ∙ ap (λ (s : State). s.prepared) c.in_ok-recycle.ensures.ok
+    ∙ ap (λ p. Some p) (due-place c.args.queue.now.state (sym c.due.ensures.due ∙ c.if-due.true))
+
+pub returns-else-due-clause-spent : goal.returns-else-due-clause-spent
+returns-else-due-clause-spent g c = λ long limit no. absurd (false≢true (sym c.if-due.false ∙ c.due.ensures.due ∙ no.due))
+
+pub returns-else-due-clause-ok : goal.returns-else-due-clause-ok
+returns-else-due-clause-ok g c = else-place c.args.queue.now.state (sym c.due.ensures.due ∙ c.if-due.false)

@@ -1,0 +1,14 @@
+pub use Rattle.st_disk.specs.History
+pub use Rattle.st_disk.specs.Moments
+pub use Rattle.st_fold.specs.Map
+pub use Rattle.st_ops.specs.Grammar
+pub use Rattle.st_ops.specs.Spelling
+pub use Rattle.st_ptree.specs.Entries
+pub use Rattle.st_queue.specs.Frames
+pub use Rattle.st_queue.specs.Mounting
+pub use Rattle.st_queue.specs.Place
+pub use Rattle.st_queue.specs.Queue
+pub use Rattle.st_queue.specs.Writing
+pub mod Replay
+pub mod Commit
+pub mod Engine

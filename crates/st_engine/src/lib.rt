@@ -1,0 +1,13 @@
+//! A durable map of byte strings: a queue of operations over a disk, and the map that they make.
+#![tactic(auto)]
+
+mod engine;
+mod map;
+mod recovery;
+mod writing;
+
+pub use engine::Engine;
+pub use st_queue::{QueueMount as EngineMount, QueueRefusal as EngineRefusal};
+
+#[cfg(test)]
+mod tests;

@@ -1,0 +1,55 @@
+// Changes a map by operations.
+ghost use Rattle.std.specs.Prelude.{◌≡◌, ◌<◌, IfOk, OnOk};
+ghost use Rattle.st_ptree.specs.Entries.{pairs_of};
+ghost use Rattle.st_engine.specs.Replay.{op_on, ops_on};
+
+use bytes::Bytes;
+use st_ops::Op;
+use st_ptree::{PTree, Steps, pairs_are_a_map};
+use std::alloc::AllocError;
+use std::marker::Brand;
+use std::sync::ledger::{Blank, Ledger};
+
+// A list has no use for priorities.
+pub(crate) const PRIORITY: u32 = 0;
+
+/// Changes the map by an operation: only a set or a clear does.
+pub(crate) fn change<L: Ledger>(
+    pairs: &mut PTree<Bytes>,
+    op: &Op,
+    steps: &mut Steps<L>,
+) -> Result<(), AllocError>
+    ensures { OnOk result (pairs_of pairs.new ≡ op_on (pairs_of pairs.old) op.now) }
+{
+    pairs_are_a_map::<Bytes>();
+    match op {
+        Op::Set(key, value) => pairs.insert(key.clone()?, PRIORITY, value.clone()?, steps),
+        Op::Clear(begin, end) => pairs.erase(begin.as_slice(), end.as_slice(), steps),
+        _ => Ok(()),
+    }
+}
+
+fn changed_in<L: Ledger>(
+    pairs: &PTree<Bytes>,
+    ops: &[Op],
+    blank: Blank,
+) -> Result<PTree<Bytes>, AllocError>
+    requires name { blank.name ≡ L.name }
+    requires parts { blank.parts ≡ L.parts }
+    requires some { 0 < blank.parts }
+    ensures { IfOk result (λ changed. pairs_of changed ≡ ops_on (pairs_of pairs.now) ops.now) }
+{
+    let mut steps = Steps::<L>::new(blank);
+    let mut changed = pairs.share()?;
+    for op in ops {
+        change(&mut changed, op, &mut steps)?;
+    }
+    Ok(changed)
+}
+
+/// The map behind operations. The one that is given stays.
+pub(crate) fn changed(pairs: &PTree<Bytes>, ops: &[Op]) -> Result<PTree<Bytes>, AllocError>
+    ensures { IfOk result (λ changed. pairs_of changed ≡ ops_on (pairs_of pairs.now) ops.now) }
+{
+    changed_in::<Brand>(pairs, ops, Blank::new(1))
+}

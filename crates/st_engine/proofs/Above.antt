@@ -19,10 +19,10 @@ is_equal Equal e = refl
 is_equal Greater e = absurd (false≢true e)
 
 -- keys that are one key are equal
-equal_keys : (a b : List ℕ) → same a b ≡ true → a ≡ b
+pub equal_keys : (a b : List ℕ) → same a b ≡ true → a ≡ b
 equal_keys a b e = exact_bytes a b (is_equal (key_cmp a b) e)
 
-same_itself : (a : List ℕ) → same a a ≡ true
+pub same_itself : (a : List ℕ) → same a a ≡ true
 same_itself a = ap is_eq (tied_itself nat_list_cmp_total a)
 
 abbrev Entries : Type 0 → Type 0

@@ -1,7 +1,15 @@
 mod Cases
 mod Gaps
 mod Above
-mod Replays
+mod Firsts
+mod Sorted
+mod Independent
+mod Snapshots
+mod Items
+mod Sizes
 mod Histories
 mod Refusals
+mod Keeping
+mod Recovering
 mod Mounts
+mod Commits

@@ -1,9 +1,10 @@
 -- What a commit appends to its queue.
 use Rattle.std.specs.Prelude.{◌≡◌, ◌<◌, ◌⊎◌, ℕ, List, [], ◌∷◌, ◌++◌, Option, Some, None, Result, Ok, IfSome, IsTrue, if◌then◌else◌}
 use Rattle.st_disk.specs.History.{History, Files}
+use Rattle.st_engine.specs.Snapshot.{whole_of}
+use Rattle.st_fold.specs.Map.{Map}
 use Rattle.st_ops.specs.Spelling.{spelt}
 use Rattle.st_ops.specs.declared.op.Op.{Op}
-use Rattle.st_ops.specs.declared.op.Op.TheVariants.{Commit}
 use Rattle.st_queue.specs.Frames.{Damage}
 use Rattle.st_queue.specs.Place.{next_place, spent}
 use Rattle.st_queue.specs.Queue.{IsSpent, end_behind, is_due, is_due_at}
@@ -12,9 +13,9 @@ use Rattle.st_queue.specs.declared.frame.Frame.{Frame}
 use Rattle.st_queue.specs.declared.place.Place.{Place}
 use Rattle.st_queue.specs.declared.state.State.{State}
 
--- the payload of a commit
-abbrev pub payload_of : List Op → List ℕ
-payload_of ops = spelt (ops ++ Commit ∷ [])
+-- the payload of a commit by its operations, with this quota, cursor and map before
+abbrev pub payload_of : ℕ → Option (List ℕ) → Map → List Op → List ℕ
+payload_of quota cursor pairs ops = spelt (whole_of quota cursor pairs ops)
 
 -- where the next frame will stand: at the end of the current file, or in the next one where that is due
 abbrev pub place_behind : State → Option Place → Place

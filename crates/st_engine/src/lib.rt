@@ -4,6 +4,7 @@
 mod engine;
 mod map;
 mod recovery;
+mod snapshot;
 mod writing;
 
 pub use engine::Engine;

@@ -1,5 +1,8 @@
 // Changes a map by operations.
-ghost use Rattle.std.specs.Prelude.{◌≡◌, ◌<◌, IfOk, OnOk};
+ghost use Rattle.std.specs.Prelude.{◌≡◌, ◌<◌, IfOk, IsTrue, OnOk};
+ghost use Rattle.std.specs.Cmp.Lexicographic.{slice_cmp};
+ghost use Rattle.std.specs.FinMap.Entries.{is_sorted};
+ghost use Rattle.std.specs.Ordering.{nat_cmp};
 ghost use Rattle.st_ptree.specs.Entries.{pairs_of};
 ghost use Rattle.st_engine.specs.Replay.{op_on, ops_on};
 
@@ -37,8 +40,10 @@ fn changed_in<L: Ledger>(
     requires name { blank.name ≡ L.name }
     requires parts { blank.parts ≡ L.parts }
     requires some { 0 < blank.parts }
-    ensures { IfOk result (λ changed. pairs_of changed ≡ ops_on (pairs_of pairs.now) ops.now) }
+    ensures pairs { IfOk result (λ changed. pairs_of changed ≡ ops_on (pairs_of pairs.now) ops.now) }
+    ensures ordered { IsTrue (is_sorted (slice_cmp nat_cmp) (pairs_of pairs.now)) }
 {
+    pairs_are_a_map::<Bytes>();
     let mut steps = Steps::<L>::new(blank);
     let mut changed = pairs.share()?;
     for op in ops {
@@ -49,7 +54,8 @@ fn changed_in<L: Ledger>(
 
 /// The map behind operations. The one that is given stays.
 pub(crate) fn changed(pairs: &PTree<Bytes>, ops: &[Op]) -> Result<PTree<Bytes>, AllocError>
-    ensures { IfOk result (λ changed. pairs_of changed ≡ ops_on (pairs_of pairs.now) ops.now) }
+    ensures pairs { IfOk result (λ changed. pairs_of changed ≡ ops_on (pairs_of pairs.now) ops.now) }
+    ensures ordered { IsTrue (is_sorted (slice_cmp nat_cmp) (pairs_of pairs.now)) }
 {
     changed_in::<Brand>(pairs, ops, Blank::new(1))
 }

@@ -1,8 +1,14 @@
 // Makes the map of a queue's frames.
-ghost use Rattle.std.specs.Prelude.{◌≡◌, ◌<◌, ◌++◌, ◌∷◌, [], ℕ, false, length, not, IfOk, IsTrue, OnOk, filter};
+ghost use Rattle.std.specs.Prelude.{◌≡◌, ◌<◌, ◌≤◌, ◌++◌, ◌∷◌, [], ℕ, false, length, not, IfOk, IsTrue, OnOk, filter};
 ghost use Rattle.st_ops.specs.declared.op.Op.TheVariants.{SnapEnd, SnapItem};
 ghost use Rattle.st_ptree.specs.Entries.{pairs_of};
-ghost use Rattle.st_engine.specs.Replay.{frame_on, is_above, kept_to, ops_of, recovered_by, replay};
+ghost use Rattle.st_engine.specs.Replay.{frame_on, is_above, kept_to, ops_of, recovered_by};
+ghost use Rattle.st_engine.specs.Snapshot.{has_close, is_end};
+ghost use Rattle.st_engine.specs.Engine.{points_of};
+ghost use Rattle.st_engine.specs.Kept.{Stand};
+ghost use Rattle.st_ops.specs.Grammar.{has_form};
+ghost use Rattle.st_queue.specs.Reading.{Rises};
+ghost use Rattle.std.specs.List.{AllByRecursion, list_any};
 
 use crate::map::{PRIORITY, change};
 use bytes::Bytes;
@@ -109,14 +115,16 @@ impl Recovery {
         }
     }
 
-    fn frame<L: Ledger>(&mut self, frame: &Frame, steps: &mut Steps<L>) -> Result<(), AllocError>
-        ensures { OnOk result (self.new ≡ frame_on self.old frame.now) }
+    // Whether a snapshot ends in the frame, too.
+    fn frame<L: Ledger>(&mut self, frame: &Frame, steps: &mut Steps<L>) -> Result<bool, AllocError>
+        ensures on { OnOk result (self.new ≡ frame_on self.old frame.now) }
+        ensures closes { IfOk result (λ closes. closes ≡ has_close frame.now) }
     {
         let ops = ops_of(self.alloc, frame)?;
         for op in &ops {
             self.step(op, steps)?;
         }
-        Ok(())
+        Ok(has_end(&ops))
     }
 }
 
@@ -161,7 +169,8 @@ fn clear_above<L: Ledger>(
 
 // The operations of a frame.
 fn ops_of(alloc: Global, frame: &Frame) -> Result<Vec<Op>, AllocError>
-    ensures { IfOk result (λ ops. ops.items ≡ ops_of frame.now) }
+    ensures ops { IfOk result (λ ops. ops.items ≡ ops_of frame.now) }
+    ensures form { IfOk result (λ ops. IsTrue (list_any is_end ops.items) → IsTrue (has_form ops.items)) }
 {
     match decode(alloc, frame.payload.as_slice()) {
         Ok(ops) => Ok(ops),
@@ -171,27 +180,69 @@ fn ops_of(alloc: Global, frame: &Frame) -> Result<Vec<Op>, AllocError>
     }
 }
 
-fn replay_in<L: Ledger>(
+// Whether a snapshot ends among the operations.
+fn has_end(ops: &[Op]) -> bool
+    ensures { result ≡ list_any is_end ops.now }
+{
+    for op in ops {
+        if matches!(op, Op::SnapEnd) {
+            return true;
+        }
+    }
+    false
+}
+
+/// What a mount makes of a queue's frames.
+#[derive(Drop)]
+pub(crate) struct Recovered {
+    pub pairs: PTree<Bytes>,
+    /// The key of the last item of the snapshot in progress.
+    pub cursor: Option<Bytes>,
+    /// The number from which the frames of that snapshot rise.
+    pub began: u64,
+    /// The number below which frames aren't needed.
+    pub discarded: u64,
+}
+
+fn recover_in<L: Ledger>(
     alloc: Global,
     frames: &[Frame],
     blank: Blank,
-) -> Result<PTree<Bytes>, AllocError>
+) -> Result<Recovered, AllocError>
     requires name { blank.name ≡ L.name }
     requires parts { blank.parts ≡ L.parts }
     requires some { 0 < blank.parts }
-    ensures { IfOk result (λ pairs. pairs_of pairs ≡ replay [] frames.now) }
+    requires numbers { Rises 0 frames.now }
+    ensures stand { IfOk result (λ r. Stand r.discarded r.began (pairs_of r.pairs) r.cursor frames.now) }
+    ensures points { IfOk result (λ r. record { discarded = r.discarded; began = r.began } ≡ points_of frames.now) }
+    ensures order { IfOk result (λ r. r.discarded ≤ r.began) }
+    ensures below { IfOk result (λ r. (next : ℕ) → AllByRecursion (λ frame. frame.seq < next) frames.now → r.began ≤ next) }
 {
     let mut steps = Steps::<L>::new(blank);
     let mut recovery = Recovery::new(alloc);
+    let mut began = 0;
+    let mut discarded = 0;
     for frame in frames {
-        recovery.frame(frame, &mut steps)?;
+        if recovery.frame(frame, &mut steps)? {
+            discarded = began;
+            began = frame.seq.saturating_add(1);
+        }
     }
-    Ok(recovery.pairs)
+    Ok(Recovered {
+        pairs: recovery.pairs,
+        cursor: recovery.last,
+        began,
+        discarded,
+    })
 }
 
-/// The map that frames make of the empty one.
-pub(crate) fn replay(alloc: Global, frames: &[Frame]) -> Result<PTree<Bytes>, AllocError>
-    ensures { IfOk result (λ pairs. pairs_of pairs ≡ replay [] frames.now) }
+/// What frames, whose numbers rise, make of the empty map.
+pub(crate) fn recover(alloc: Global, frames: &[Frame]) -> Result<Recovered, AllocError>
+    requires numbers { Rises 0 frames.now }
+    ensures stand { IfOk result (λ r. Stand r.discarded r.began (pairs_of r.pairs) r.cursor frames.now) }
+    ensures points { IfOk result (λ r. record { discarded = r.discarded; began = r.began } ≡ points_of frames.now) }
+    ensures order { IfOk result (λ r. r.discarded ≤ r.began) }
+    ensures below { IfOk result (λ r. (next : ℕ) → AllByRecursion (λ frame. frame.seq < next) frames.now → r.began ≤ next) }
 {
-    replay_in::<Brand>(alloc, frames, Blank::new(1))
+    recover_in::<Brand>(alloc, frames, Blank::new(1))
 }

@@ -1,5 +1,5 @@
 // Appends the payloads of commits to a queue.
-ghost use Rattle.std.specs.Prelude.{◌≡◌, ◌↔◌, ◌⊎◌, ◌++◌, ◌∷◌, [], ℕ, Some, None, Ok, Err, IsTrue, IfOk, IfErr, OnOk};
+ghost use Rattle.std.specs.Prelude.{max, if◌then◌else◌, ◌≡◌, ◌↔◌, ◌⊎◌, ◌++◌, ◌∷◌, [], ℕ, Some, None, Ok, Err, IsTrue, IfOk, IfErr, OnOk};
 ghost use Rattle.std.specs.List.{AllByRecursion, list_all};
 ghost use Rattle.std.specs.Result.{IsErrAnd};
 ghost use Rattle.st_disk.specs.Moments.{ToldLeavesOnly};
@@ -9,7 +9,9 @@ ghost use Rattle.st_ops.specs.Grammar.{Fits, is_change};
 ghost use Rattle.st_ops.specs.Reading.{reading};
 ghost use Rattle.st_queue.specs.Frames.{is_payload};
 ghost use Rattle.st_queue.specs.Mounting.{HasFault, IsOfWriting, IsOutside};
-ghost use Rattle.st_queue.specs.Queue.{after_refusal};
+ghost use Rattle.st_queue.specs.Place.{next_number};
+ghost use Rattle.st_engine.specs.Engine.{began_behind};
+ghost use Rattle.st_queue.specs.Queue.{after_refusal, with_discarded};
 ghost use Rattle.st_queue.specs.Writing.{HasFramesLess, ToldSettled, behind_frame};
 ghost use Rattle.st_queue.specs.declared.frame.QueueRefusal.TheVariants.{Broken, Full};
 
@@ -18,8 +20,8 @@ use st_ops::{Op, encode, form_of_parts, one_spelling};
 use st_queue::{Queue, QueueRefusal};
 use std::alloc::{AllocError, Global};
 
-// The same operations.
-fn copy(alloc: Global, ops: &[Op]) -> Result<Vec<Op>, AllocError>
+/// The same operations.
+pub(crate) fn copy(alloc: Global, ops: &[Op]) -> Result<Vec<Op>, AllocError>
     ensures { IfOk result (λ copy. copy.items ≡ ops.now) }
 {
     let mut copy = Vec::new(alloc);
@@ -27,20 +29,6 @@ fn copy(alloc: Global, ops: &[Op]) -> Result<Vec<Op>, AllocError>
         copy.push(op.clone()?)?;
     }
     Ok(copy)
-}
-
-/// The payload of a commit: its operations, and `Commit`.
-pub(crate) fn payload(alloc: Global, ops: &[Op]) -> Result<Vec<u8>, AllocError>
-    requires changes { IsTrue (list_all is_change ops.now) }
-    requires fits { AllByRecursion Fits ops.now }
-    ensures spelt { IfOk result (λ payload. payload.items ≡ payload_of ops.now) }
-    ensures read { IfOk result (λ _. reading (payload_of ops.now) ≡ Ok (ops.now ++ Commit ∷ [])) }
-{
-    form_of_parts();
-    one_spelling();
-    let mut whole = copy(alloc, ops)?;
-    whole.push(Op::Commit)?;
-    encode(alloc, &whole)
 }
 
 // Makes the next file ready and enters it, where one is due.
@@ -54,6 +42,7 @@ fn enter_due<D: Disk>(queue: &mut Queue<D>) -> Result<(), QueueRefusal>
     ensures discarded { queue.new.state.discarded ≡ queue.old.state.discarded }
     ensures limit { queue.new.state.limit ≡ queue.old.state.limit }
     ensures ok { OnOk result (queue.new.state.current ≡ Some (frame_place queue.old.state)) }
+    ensures next { next_number queue.new.state.current ≡ next_number queue.old.state.current }
     ensures broken { (faults : ℕ) → (result ≡ Err (Broken faults)) → (queue.old.state.broken ≡ Some faults) }
     ensures was_broken { (faults : ℕ) → (queue.old.state.broken ≡ Some faults) → IfErr result (λ refusal. refusal ≡ Broken faults) }
     ensures err { IfErr result (λ refusal. queue.new.state.broken ≡ (after_refusal refusal queue.old.state).broken) }
@@ -70,8 +59,8 @@ fn enter_due<D: Disk>(queue: &mut Queue<D>) -> Result<(), QueueRefusal>
     Ok(())
 }
 
-/// Appends a payload to the current file, or to the next one where it is due.
-pub(crate) fn append<D: Disk>(queue: &mut Queue<D>, payload: &[u8]) -> Result<(), QueueRefusal>
+/// Appends a payload to the current file, or to the next one where it is due, and answers its frame's number.
+pub(crate) fn append<D: Disk>(queue: &mut Queue<D>, payload: &[u8]) -> Result<u64, QueueRefusal>
     requires listed { IsTrue (is_payload payload.now) }
     ensures any_moment { queue.old.state.broken ≡ None → ToldLeavesOnly (D.history queue.old.disk) (D.history queue.new.disk)
         (HasLessOrMore queue.old.state.discarded (next_frame queue.old.state payload.now) (D.history queue.old.disk)) }
@@ -82,7 +71,10 @@ pub(crate) fn append<D: Disk>(queue: &mut Queue<D>, payload: &[u8]) -> Result<()
     ensures stays { IfErr result (λ _. queue.new.state.broken ≡ None
         → ToldFewer queue.old.state.discarded (D.history queue.old.disk) (D.history queue.new.disk)) }
     ensures discarded { queue.new.state.discarded ≡ queue.old.state.discarded }
+    ensures same_next { IfErr result (λ _. next_number queue.new.state.current ≡ next_number queue.old.state.current) }
     ensures ok { OnOk result (queue.new.state.current ≡ Some (behind_frame (frame_place queue.old.state) payload.now)) }
+    ensures number { IfOk result (λ seq. seq ≡ (frame_place queue.old.state).next) }
+    ensures kept { OnOk result (queue.new.state.broken ≡ queue.old.state.broken) }
     ensures broken { (faults : ℕ) → (result ≡ Err (Broken faults)) ↔ (queue.old.state.broken ≡ Some faults) }
     ensures full { (long limit : ℕ) → result ≡ Err (Full long limit) → IsPastLimit queue.old.state payload.now long limit }
     ensures past { (long limit : ℕ) → IsPastLimit queue.old.state payload.now long limit
@@ -92,6 +84,20 @@ pub(crate) fn append<D: Disk>(queue: &mut Queue<D>, payload: &[u8]) -> Result<()
     ensures cause { HasFault (D.fault_count queue.old.disk) (D.fault_count queue.new.disk) result }
 {
     enter_due(queue)?;
-    queue.append(payload)?;
-    Ok(())
+    let seq = queue.append(payload)?;
+    Ok(seq)
+}
+
+/// Discards the frames from before a snapshot, where it has ended with this frame. Answers where the snapshot in progress began.
+pub(crate) fn discard<D: Disk>(queue: &mut Queue<D>, began: u64, seq: u64, ended: bool) -> u64
+    ensures disk { queue.new.disk ≡ queue.old.disk }
+    ensures state { queue.new.state
+        ≡ (if ended then with_discarded (max queue.old.state.discarded began) queue.old.state else queue.old.state) }
+    ensures began { result ≡ (if ended then began_behind seq else began) }
+{
+    if !ended {
+        return began;
+    }
+    queue.discard_before(began);
+    seq.saturating_add(1)
 }

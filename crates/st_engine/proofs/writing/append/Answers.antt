@@ -14,14 +14,14 @@ use Rattle.st_engine.proofs.writing.append.Goals as goal
 pub returns-in_err-enter_due-clause-broken : goal.returns-in_err-enter_due-clause-broken
 returns-in_err-enter_due-clause-broken g c = λ faults.
     let p = err_from_is_err_and c.from_residual.result c.from_residual.ensures.1 in (
-      λ is. c.enter_due.ensures.broken faults (c.in_err-enter_due.was ∙ ap (λ (r : QueueRefusal). Err r) (sym p.2) ∙ sym p.1 ∙ is),
+      λ is. c.enter_due.ensures.broken faults (c.in_err-enter_due.was ∙ ap (λ (r : QueueRefusal). Err r) (same_Err c.in_err-enter_due.field-0.0 (Broken faults) c.from_residual.result (p.1 ∙ ap (λ (r : QueueRefusal). Err r) p.2) is)),
       λ broken. p.1 ∙ ap (λ (r : QueueRefusal). Err r) (p.2 ∙ c.in_err-enter_due.ensures.was_broken faults broken),
     )
 
 pub returns-in_err-enter_due-clause-full : goal.returns-in_err-enter_due-clause-full
 returns-in_err-enter_due-clause-full g c = λ long limit is.
     let p = err_from_is_err_and c.from_residual.result c.from_residual.ensures.1 in
-    inl (c.enter_due.ensures.full long limit (c.in_err-enter_due.was ∙ ap (λ (r : QueueRefusal). Err r) (sym p.2) ∙ sym p.1 ∙ is))
+    inl (c.enter_due.ensures.full long limit (c.in_err-enter_due.was ∙ ap (λ (r : QueueRefusal). Err r) (same_Err c.in_err-enter_due.field-0.0 (Full long limit) c.from_residual.result (p.1 ∙ ap (λ (r : QueueRefusal). Err r) p.2) is)))
 
 pub returns-in_err-enter_due-clause-past : goal.returns-in_err-enter_due-clause-past
 returns-in_err-enter_due-clause-past g c =
@@ -40,37 +40,37 @@ returns-in_err-enter_due-clause-past g c =
     cc (spent_is, none))))
     past)
 
-pub returns-in_err-append-clause-any_moment : goal.returns-in_err-append-clause-any_moment
-returns-in_err-append-clause-any_moment g c = λ old.
+pub returns-in_err-seq-clause-any_moment : goal.returns-in_err-seq-clause-any_moment
+returns-in_err-seq-clause-any_moment g c = λ old.
     let mid = c.in_ok-enter_due.ensures.kept ∙ old in
     joined-more _ _ _ _ _ _ (c.enter_due.ensures.any_moment old) (c.enter_due.ensures.frames old mid) (c.enter_due.ensures.stands mid) (c.append.ensures.appends mid _ c.in_ok-enter_due.ensures.ok).any_moment
 
-pub returns-in_err-append-clause-stays : goal.returns-in_err-append-clause-stays
-returns-in_err-append-clause-stays g c =
-    let p = err_from_is_err_and c.from_residual-in_err-append.result c.from_residual-in_err-append.ensures.1 in
-    let refusal = c.in_err-append.field-0.0 in
+pub returns-in_err-seq-clause-stays : goal.returns-in_err-seq-clause-stays
+returns-in_err-seq-clause-stays g c =
+    let p = err_from_is_err_and c.from_residual-in_err-seq.result c.from_residual-in_err-seq.ensures.1 in
+    let refusal = c.in_err-seq.field-0.0 in
     rw (p.1) (λ unbroken.
-    let after = sym (ap (λ (s : State). s.broken) c.in_err-append.ensures.err) ∙ unbroken in
+    let after = sym (ap (λ (s : State). s.broken) c.in_err-seq.ensures.err) ∙ unbroken in
     let mid = unbroken-before refusal c.enter_due.new.queue.state after in
     let old = sym c.in_ok-enter_due.ensures.kept ∙ mid in
     still-less _ _ _ _ (c.enter_due.ensures.frames old mid)
-    (refused-frames _ _ c.append.result refusal c.enter_due.new.queue.state c.in_err-append.was c.in_err-append.ensures.refuses (c.append.ensures.appends mid _ c.in_ok-enter_due.ensures.ok).same
-    (λ before. ap (λ disk. told_frames (g.D.Disk.history disk)) (c.in_err-append.ensures.untouched before)) after))
+    (refused-frames _ _ c.append.result refusal c.enter_due.new.queue.state c.in_err-seq.was c.in_err-seq.ensures.refuses (c.append.ensures.appends mid _ c.in_ok-enter_due.ensures.ok).same
+    (λ before. ap (λ disk. told_frames (g.D.Disk.history disk)) (c.in_err-seq.ensures.untouched before)) after))
 
-pub returns-in_err-append-clause-broken : goal.returns-in_err-append-clause-broken
-returns-in_err-append-clause-broken g c = λ faults.
-    let p = err_from_is_err_and c.from_residual-in_err-append.result c.from_residual-in_err-append.ensures.1 in
-    let refusal = c.in_err-append.field-0.0 in
+pub returns-in_err-seq-clause-broken : goal.returns-in_err-seq-clause-broken
+returns-in_err-seq-clause-broken g c = λ faults.
+    let p = err_from_is_err_and c.from_residual-in_err-seq.result c.from_residual-in_err-seq.ensures.1 in
+    let refusal = c.in_err-seq.field-0.0 in
     let kept = c.in_ok-enter_due.ensures.kept in (
-      λ is. sym kept ∙ (c.append.ensures.broken faults).0 (c.in_err-append.was ∙ ap (λ (r : QueueRefusal). Err r) (same_Err refusal (Broken faults) c.from_residual-in_err-append.result (p.1 ∙ ap (λ (r : QueueRefusal). Err r) p.2) is)),
-      λ broken. p.1 ∙ ap (λ (r : QueueRefusal). Err r) (p.2 ∙ same_Err refusal (Broken faults) c.append.result c.in_err-append.was ((c.append.ensures.broken faults).1 (kept ∙ broken))),
+      λ is. sym kept ∙ (c.append.ensures.broken faults).0 (c.in_err-seq.was ∙ ap (λ (r : QueueRefusal). Err r) (same_Err refusal (Broken faults) c.from_residual-in_err-seq.result (p.1 ∙ ap (λ (r : QueueRefusal). Err r) p.2) is)),
+      λ broken. p.1 ∙ ap (λ (r : QueueRefusal). Err r) (p.2 ∙ same_Err refusal (Broken faults) c.append.result c.in_err-seq.was ((c.append.ensures.broken faults).1 (kept ∙ broken))),
     )
 
-pub returns-in_err-append-clause-full : goal.returns-in_err-append-clause-full
-returns-in_err-append-clause-full g c = λ long limit is.
-    let p = err_from_is_err_and c.from_residual-in_err-append.result c.from_residual-in_err-append.ensures.1 in
-    let full = same_Err c.in_err-append.field-0.0 (Full long limit) c.from_residual-in_err-append.result (p.1 ∙ ap (λ (r : QueueRefusal). Err r) p.2) is in
-    let past = (c.append.ensures.full long limit).0 (c.in_err-append.was ∙ ap (λ (r : QueueRefusal). Err r) full) in
+pub returns-in_err-seq-clause-full : goal.returns-in_err-seq-clause-full
+returns-in_err-seq-clause-full g c = λ long limit is.
+    let p = err_from_is_err_and c.from_residual-in_err-seq.result c.from_residual-in_err-seq.ensures.1 in
+    let full = same_Err c.in_err-seq.field-0.0 (Full long limit) c.from_residual-in_err-seq.result (p.1 ∙ ap (λ (r : QueueRefusal). Err r) p.2) is in
+    let past = (c.append.ensures.full long limit).0 (c.in_err-seq.was ∙ ap (λ (r : QueueRefusal). Err r) full) in
     let kept = c.in_ok-enter_due.ensures.kept in
     inr (past-before c.args.queue.now.state c.enter_due.new.queue.state c.args.payload.now long limit kept c.enter_due.ensures.limit c.in_ok-enter_due.ensures.ok
     (λ due. no-fault (spent c.args.queue.now.state.current) (λ n is.
@@ -78,12 +78,12 @@ returns-in_err-append-clause-full g c = λ long limit is.
     let done = c.in_ok-enter_due.was in
     cc (full, done))) past)
 
-pub returns-in_err-append-clause-past : goal.returns-in_err-append-clause-past
-returns-in_err-append-clause-past g c =
-    let p = err_from_is_err_and c.from_residual-in_err-append.result c.from_residual-in_err-append.ensures.1 in
+pub returns-in_err-seq-clause-past : goal.returns-in_err-seq-clause-past
+returns-in_err-seq-clause-past g c =
+    let p = err_from_is_err_and c.from_residual-in_err-seq.result c.from_residual-in_err-seq.ensures.1 in
     rw (p.1, p.2) (λ long limit past. ⊎_elim
     (λ no. let full = c.enter_due.ensures.spent long limit no in let done = c.in_ok-enter_due.was in absurd (cc (full, done)))
-    (λ ends. inl (same_Err c.in_err-append.field-0.0 (Full long limit) c.append.result c.in_err-append.was ((c.append.ensures.full long limit).1
+    (λ ends. inl (same_Err c.in_err-seq.field-0.0 (Full long limit) c.append.result c.in_err-seq.was ((c.append.ensures.full long limit).1
     (past-now c.args.queue.now.state c.enter_due.new.queue.state c.args.payload.now long limit c.in_ok-enter_due.ensures.kept c.enter_due.ensures.limit c.in_ok-enter_due.ensures.ok ends))))
     past)
 
@@ -95,39 +95,39 @@ returns-clause-any_moment g c = λ old.
 pub returns-clause-appends : goal.returns-clause-appends
 returns-clause-appends g c =
     let kept = c.in_ok-enter_due.ensures.kept in
-    let old : c.args.queue.now.state.broken ≡ None = no-fault c.args.queue.now.state.broken (λ faults is. let failed = (c.append.ensures.broken faults).1 (kept ∙ is) in let done = c.in_ok-append.was in cc (failed, done)) in
+    let old : c.args.queue.now.state.broken ≡ None = no-fault c.args.queue.now.state.broken (λ faults is. let failed = (c.append.ensures.broken faults).1 (kept ∙ is) in let done = c.in_ok-seq.was in cc (failed, done)) in
     let mid = kept ∙ old in
-    (old, one-more _ _ _ _ _ _ (c.enter_due.ensures.frames old mid) (c.enter_due.ensures.stands mid) (c.in_ok-append.ensures.appends mid _ c.in_ok-enter_due.ensures.ok).frames)
+    (old, one-more _ _ _ _ _ _ (c.enter_due.ensures.frames old mid) (c.enter_due.ensures.stands mid) (c.in_ok-seq.ensures.appends mid _ c.in_ok-enter_due.ensures.ok).frames)
 
 pub returns-clause-broken : goal.returns-clause-broken
 returns-clause-broken g c = λ faults. (
   λ is. absurd (cc (is)),
-  λ broken. let failed = (c.append.ensures.broken faults).1 (c.in_ok-enter_due.ensures.kept ∙ broken) in let done = c.in_ok-append.was in absurd (cc (failed, done)),
+  λ broken. let failed = (c.append.ensures.broken faults).1 (c.in_ok-enter_due.ensures.kept ∙ broken) in let done = c.in_ok-seq.was in absurd (cc (failed, done)),
 )
 
 pub returns-in_err-enter_due-clause-untold : goal.returns-in_err-enter_due-clause-untold
 returns-in_err-enter_due-clause-untold g c = c.enter_due.ensures.untold
 
-pub returns-in_err-append-clause-untold : goal.returns-in_err-append-clause-untold
-returns-in_err-append-clause-untold g c = λ none unbroken.
-    let refusal = c.in_err-append.field-0.0 in
-    let after = sym (ap (λ (s : State). s.broken) c.in_err-append.ensures.err) ∙ unbroken in
+pub returns-in_err-seq-clause-untold : goal.returns-in_err-seq-clause-untold
+returns-in_err-seq-clause-untold g c = λ none unbroken.
+    let refusal = c.in_err-seq.field-0.0 in
+    let after = sym (ap (λ (s : State). s.broken) c.in_err-seq.ensures.err) ∙ unbroken in
     let mid = unbroken-before refusal c.enter_due.new.queue.state after in
     untold-frames _ _
-    (refused-frames _ _ c.append.result refusal c.enter_due.new.queue.state c.in_err-append.was c.in_err-append.ensures.refuses (c.append.ensures.appends mid _ c.in_ok-enter_due.ensures.ok).same
-    (λ before. ap (λ disk. told_frames (g.D.Disk.history disk)) (c.in_err-append.ensures.untouched before)) after)
+    (refused-frames _ _ c.append.result refusal c.enter_due.new.queue.state c.in_err-seq.was c.in_err-seq.ensures.refuses (c.append.ensures.appends mid _ c.in_ok-enter_due.ensures.ok).same
+    (λ before. ap (λ disk. told_frames (g.D.Disk.history disk)) (c.in_err-seq.ensures.untouched before)) after)
     (c.enter_due.ensures.untold none mid)
 
 pub returns-clause-untold : goal.returns-clause-untold
 returns-clause-untold g c = λ none unbroken.
-    let mid = sym (ap (λ (s : State). s.broken) c.in_ok-append.ensures.ok) ∙ unbroken in
-    (c.in_ok-append.ensures.appends mid _ c.in_ok-enter_due.ensures.ok).calls ∙ ap (option_map (appended _ c.args.payload.now)) (c.enter_due.ensures.untold none mid)
+    let mid = sym (ap (λ (s : State). s.broken) c.in_ok-seq.ensures.ok) ∙ unbroken in
+    (c.in_ok-seq.ensures.appends mid _ c.in_ok-enter_due.ensures.ok).calls ∙ ap (option_map (appended _ c.args.payload.now)) (c.enter_due.ensures.untold none mid)
 
 pub returns-clause-past : goal.returns-clause-past
 returns-clause-past g c = λ long limit past. ⊎_elim
     (λ no. let full = c.enter_due.ensures.spent long limit no in let done = c.in_ok-enter_due.was in absurd (cc (full, done)))
     (λ ends.
     let full = (c.append.ensures.full long limit).1 (past-now c.args.queue.now.state c.enter_due.new.queue.state c.args.payload.now long limit c.in_ok-enter_due.ensures.kept c.enter_due.ensures.limit c.in_ok-enter_due.ensures.ok ends) in
-    let done = c.in_ok-append.was in
+    let done = c.in_ok-seq.was in
     absurd (cc (full, done)))
     past

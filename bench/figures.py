@@ -1,0 +1,42 @@
+"""Builds and runs small programs over the repository's crates, for the figures of crates that the program doesn't show."""
+import os
+import shutil
+import subprocess
+import sys
+import tempfile
+
+TOP = os.path.dirname(os.path.dirname(os.path.realpath(__file__)))
+
+
+def rows_of(crates, text):
+    """The rows of numbers that a program over the crates prints. `crates` gives what each is built on."""
+    with tempfile.TemporaryDirectory() as folder:
+        for crate in crates:
+            for part in ("src", "specs", "proofs"):
+                source = os.path.join(TOP, "crates", crate, part)
+                if os.path.isdir(source):
+                    shutil.copytree(source, os.path.join(folder, "crates", crate, part))
+        program = os.path.join(folder, "crates", "figures")
+        for part in ("src", "specs"):
+            os.makedirs(os.path.join(program, part))
+        with open(os.path.join(program, "src", "main.rt"), "w", encoding="utf-8") as out:
+            out.write(text)
+        open(os.path.join(program, "specs", "Lib.antt"), "w", encoding="utf-8").close()
+        with open(os.path.join(folder, "crates.txt"), "w", encoding="utf-8") as out:
+            out.writelines(f"{crate}: {below}\n" for crate, below in crates.items())
+            out.write("figures: bytes " + " ".join(crates) + "\n")
+        done = subprocess.run(["rt", "run"], cwd=program, stdout=subprocess.PIPE, text=True, check=False)
+    lines = [line.split() for line in done.stdout.splitlines()]
+    rows = [[int(word) for word in line] for line in lines if line and all(word.isdigit() for word in line)]
+    if not rows:
+        sys.exit(f"bench: the program told nothing\n{done.stdout[-2000:]}")
+    return rows
+
+
+def within(what, once, more, at_most, unit):
+    """Prints how much more it is, and answers whether that is within its bound."""
+    figure = more / once
+    print(f"{what}: {figure:.2f}, at most {at_most} ({more:,} {unit} over {once:,})")
+    if figure > at_most:
+        print(f"bench: {what}: {figure:.2f} is above {at_most}", file=sys.stderr)
+    return figure <= at_most

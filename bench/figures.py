@@ -8,8 +8,8 @@ import tempfile
 TOP = os.path.dirname(os.path.dirname(os.path.realpath(__file__)))
 
 
-def rows_of(crates, text):
-    """The rows of numbers that a program over the crates prints. `crates` gives what each is built on."""
+def rows_of(crates, text, count):
+    """The rows of numbers, so many, that a program over the crates prints. `crates` gives what each is built on."""
     with tempfile.TemporaryDirectory() as folder:
         for crate in crates:
             for part in ("src", "specs", "proofs"):
@@ -28,8 +28,8 @@ def rows_of(crates, text):
         done = subprocess.run(["rt", "run"], cwd=program, stdout=subprocess.PIPE, text=True, check=False)
     lines = [line.split() for line in done.stdout.splitlines()]
     rows = [[int(word) for word in line] for line in lines if line and all(word.isdigit() for word in line)]
-    if not rows:
-        sys.exit(f"bench: the program told nothing\n{done.stdout[-2000:]}")
+    if len(rows) != count:
+        sys.exit(f"bench: the program told no {count} rows of numbers\n{done.stdout[-2000:]}")
     return rows
 
 

@@ -8,8 +8,9 @@ import tempfile
 TOP = os.path.dirname(os.path.dirname(os.path.realpath(__file__)))
 
 
-def rows_of(crates, text, count):
-    """The rows of numbers, so many, that a program over the crates prints. `crates` gives what each is built on."""
+def rows_of(crates, text, count, proofs=None):
+    """The rows of numbers, so many, that a program over the crates prints. `crates` gives what each is built on, and
+    `proofs` the files that the program's own proof needs."""
     with tempfile.TemporaryDirectory() as folder:
         for crate in crates:
             for part in ("src", "specs", "proofs"):
@@ -22,6 +23,11 @@ def rows_of(crates, text, count):
         with open(os.path.join(program, "src", "main.rt"), "w", encoding="utf-8") as out:
             out.write(text)
         open(os.path.join(program, "specs", "Lib.antt"), "w", encoding="utf-8").close()
+        for name, proof in (proofs or {}).items():
+            file = os.path.join(program, "proofs", name)
+            os.makedirs(os.path.dirname(file), exist_ok=True)
+            with open(file, "w", encoding="utf-8") as out:
+                out.write(proof)
         with open(os.path.join(folder, "crates.txt"), "w", encoding="utf-8") as out:
             out.writelines(f"{crate}: {below}\n" for crate, below in crates.items())
             out.write("figures: bytes " + " ".join(crates) + "\n")

@@ -30,7 +30,7 @@ is_Less Greater e = absurd cc
 
 module _ {X : Type 0} where
   -- a key below each key of a list isn't found
-  not_below : (key : List ℕ) (e : List ℕ × (ℕ × X)) (es : List (List ℕ × (ℕ × X))) → key_cmp key e.0 ≡ Less → entries.below_all key_cmp e.0 es ≡ true → found key es ≡ None
+  pub not_below : (key : List ℕ) (e : List ℕ × (ℕ × X)) (es : List (List ℕ × (ℕ × X))) → key_cmp key e.0 ≡ Less → entries.below_all key_cmp e.0 es ≡ true → found key es ≡ None
   not_below key e [] is rest = refl
   not_below key e (f ∷ es) is rest =
       let parts = both_true (less e.0 f.0) (entries.below_all key_cmp e.0 es) rest in

@@ -1,4 +1,5 @@
 pub mod Changes
 pub mod Nearest
 pub mod Pairs
+pub mod Splits
 mod Rows

@@ -12,7 +12,7 @@ use Rattle.st_ptree.specs.Nearest.{HaveNone, IsLeast, IsGreatest}
 use Rattle.st_ptree.proofs.Changes.{both_true, is_Less}
 
 -- no key is below itself, and none is below one that is below it
-less_itself : (a : List ℕ) → less a a ≡ false
+pub less_itself : (a : List ℕ) → less a a ≡ false
 less_itself a = ap is_lt (tied_itself nat_list_cmp_total a)
 
 less_back : (a b : List ℕ) → less a b ≡ true → less b a ≡ false

@@ -2,6 +2,7 @@
 #![tactic(auto)]
 
 mod entry;
+mod iter;
 mod laws;
 mod list;
 mod steps;
@@ -9,6 +10,7 @@ mod steps;
 mod tests;
 mod tree;
 
+pub use iter::Iter;
 pub use laws::{neighbours_are_nearest, pairs_are_a_map};
 pub use steps::Steps;
 pub use tree::PTree;

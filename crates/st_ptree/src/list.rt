@@ -1,9 +1,10 @@
 //! Searches and changes of a list of entries in the order of their keys.
 //!
-//! Each goes through the list from its front, and each change makes a list anew, so all are linear.
-ghost use Rattle.std.specs.Prelude.{◌≡◌, ◌++◌, IfOk, OnOk, IsTrue};
+//! A search halves the list at each step. A change makes a list anew, so it is linear.
+ghost use Rattle.std.specs.Prelude.{◌≡◌, ◌++◌, if◌then◌else◌, length, IfOk, OnOk, IsTrue};
+ghost use Rattle.std.specs.FinMap.Entries.{where_key};
 ghost use Rattle.std.specs.Option.{option_copied, option_map};
-ghost use Rattle.st_ptree.specs.Entries.{key_cmp, found, first_of, last_of, is_ordered, with_entry, within, without_key, without_range, below, at_or_below, above};
+ghost use Rattle.st_ptree.specs.Entries.{key_cmp, found, first_of, last_of, is_ordered, with_entry, within, without_key, without_range, before, below, at_or_below, at_or_above, above};
 
 use crate::Steps;
 use crate::entry::Entry;
@@ -27,19 +28,73 @@ fn look_at<T, L: Ledger>(key: &Bytes, entry: &Entry<T>, steps: &mut Steps<L>) ->
     look(key.as_slice(), entry.key(), steps)
 }
 
+// Whether an entry comes before a key: below it, or also at it.
+fn is_before<T, L: Ledger>(
+    entry: &Entry<T>,
+    key: &[u8],
+    or_equal: bool,
+    steps: &mut Steps<L>,
+) -> bool
+    ensures { result ≡ before key.now or_equal entry.now.0 }
+{
+    if or_equal {
+        !look(key, entry.key(), steps).is_lt()
+    } else {
+        look(entry.key(), key, steps).is_lt()
+    }
+}
+
+// How many entries come before a key: those below it, or also the one at it. It halves what is left at each step.
+fn count_before<T, L: Ledger>(
+    entries: &[Entry<T>],
+    key: &[u8],
+    or_equal: bool,
+    steps: &mut Steps<L>,
+) -> usize
+    requires { IsTrue (is_ordered entries.now) }
+    ensures { result ≡ length (where_key key_cmp (before key.now or_equal) entries.now) }
+{
+    let mut low = 0;
+    let mut high = entries.len();
+    while low < high {
+        let middle = low + (high - low) / 2;
+        if is_before(&entries[middle], key, or_equal, steps) {
+            low = middle + 1;
+        } else {
+            high = middle;
+        }
+    }
+    low
+}
+
+/// The entries up to a key, and those behind it. The one at the key is in front where `or_equal` says so.
+pub(crate) fn split<'a, T, L: Ledger>(
+    entries: &'a [Entry<T>],
+    key: &[u8],
+    or_equal: bool,
+    steps: &mut Steps<L>,
+) -> (&'a [Entry<T>], &'a [Entry<T>])
+    requires { IsTrue (is_ordered entries.now) }
+    ensures front { result.0.now ≡ (if or_equal then at_or_below entries.now key.now else below entries.now key.now) }
+    ensures back { result.1.now ≡ (if or_equal then above entries.now key.now else at_or_above entries.now key.now) }
+{
+    entries.split_at(count_before(entries, key, or_equal, steps))
+}
+
 pub(crate) fn find<'a, T, L: Ledger>(
     entries: &'a [Entry<T>],
     key: &[u8],
     steps: &mut Steps<L>,
 ) -> Option<&'a Entry<T>>
+    requires { IsTrue (is_ordered entries.now) }
     ensures { option_map (λ e. e.now.1) result ≡ found key.now entries.now }
 {
-    for entry in entries {
-        if look(key, entry.key(), steps).is_eq() {
-            return Some(entry);
-        }
+    let entry = split(entries, key, false, steps).1.first()?;
+    if look(key, entry.key(), steps).is_eq() {
+        Some(entry)
+    } else {
+        None
     }
-    None
 }
 
 pub(crate) fn last_at_or_below<'a, T, L: Ledger>(
@@ -47,15 +102,10 @@ pub(crate) fn last_at_or_below<'a, T, L: Ledger>(
     key: &[u8],
     steps: &mut Steps<L>,
 ) -> Option<&'a Entry<T>>
+    requires { IsTrue (is_ordered entries.now) }
     ensures { option_copied result ≡ last_of (at_or_below entries.now key.now) }
 {
-    let mut last = None;
-    for entry in entries {
-        if !look(key, entry.key(), steps).is_lt() {
-            last = Some(entry);
-        }
-    }
-    last
+    split(entries, key, true, steps).0.last()
 }
 
 pub(crate) fn next_after<'a, T, L: Ledger>(
@@ -63,14 +113,10 @@ pub(crate) fn next_after<'a, T, L: Ledger>(
     key: &[u8],
     steps: &mut Steps<L>,
 ) -> Option<&'a Entry<T>>
+    requires { IsTrue (is_ordered entries.now) }
     ensures { option_copied result ≡ first_of (above entries.now key.now) }
 {
-    for entry in entries {
-        if look(key, entry.key(), steps).is_lt() {
-            return Some(entry);
-        }
-    }
-    None
+    split(entries, key, true, steps).1.first()
 }
 
 pub(crate) fn prev_before<'a, T, L: Ledger>(
@@ -78,15 +124,10 @@ pub(crate) fn prev_before<'a, T, L: Ledger>(
     key: &[u8],
     steps: &mut Steps<L>,
 ) -> Option<&'a Entry<T>>
+    requires { IsTrue (is_ordered entries.now) }
     ensures { option_copied result ≡ last_of (below entries.now key.now) }
 {
-    let mut last = None;
-    for entry in entries {
-        if look(entry.key(), key, steps).is_lt() {
-            last = Some(entry);
-        }
-    }
-    last
+    split(entries, key, false, steps).0.last()
 }
 
 // Shares these entries at the end of another list.

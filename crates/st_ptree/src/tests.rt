@@ -71,9 +71,17 @@ fn find_neighbours<L: Ledger>(rt: &impl Abort, alloc: Global, blank: Blank) -> R
             above
         );
         assert_eq!(rt;
+            tree.iter_above(key, &mut steps)
+                .next()
+                .map(|(_, item)| *item),
+            above
+        );
+        assert_eq!(rt;
             tree.prev_before(key, &mut steps).map(|(_, item)| *item),
             below
         );
     }
+    let items: Vec<u8> = tree.iter().map(|(_, item)| *item).collect(alloc)?;
+    assert_eq!(rt; items.as_slice(), [2, 4].as_slice());
     Ok(())
 }

@@ -1,10 +1,10 @@
 //! The map as a list behind a count of its owners.
 ghost use Rattle.std.specs.Prelude.{◌≡◌, [], ◌==◌, length, IfOk, OnOk, OnErr, IsTrue, is_some};
 ghost use Rattle.std.specs.Option.{option_copied, option_map};
-ghost use Rattle.st_ptree.specs.Entries.{first_of, last_of, found, item_at, pair_of, with_entry, without_key, without_range, below, at_or_below, above, is_ordered};
+ghost use Rattle.st_ptree.specs.Entries.{first_of, last_of, found, item_at, pair_of, pairs_of, with_entry, without_key, without_range, below, at_or_below, above, is_ordered};
 
 use crate::entry::Entry;
-use crate::{Steps, list};
+use crate::{Iter, Steps, list};
 use bytes::Bytes;
 use std::alloc::{AllocError, Global};
 use std::marker::Model;
@@ -118,6 +118,22 @@ impl<T> PTree<T> {
         ensures ordered { IsTrue (is_ordered self.now) }
     {
         pair(list::prev_before(self.entries(), key, steps))
+    }
+
+    /// All entries, in the order of their keys.
+    pub fn iter(&self) -> Iter<'_, T>
+        ensures value { result ≡ pairs_of self.now }
+        ensures ordered { IsTrue (is_ordered self.now) }
+    {
+        Iter::new(self.entries())
+    }
+
+    /// The entries above a key, in the order of their keys. It searches once.
+    pub fn iter_above<L: Ledger>(&self, key: &[u8], steps: &mut Steps<L>) -> Iter<'_, T>
+        ensures value { result ≡ pairs_of (above self.now key.now) }
+        ensures ordered { IsTrue (is_ordered self.now) }
+    {
+        Iter::new(list::split(self.entries(), key, true, steps).1)
     }
 }
 

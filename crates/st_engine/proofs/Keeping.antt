@@ -11,7 +11,6 @@ use Rattle.st_queue.specs.declared.frame.Frame.{Frame}
 use Rattle.st_engine.specs.Kept.{Parts, Stand, ends_behind, ends_there}
 use Rattle.st_engine.specs.Replay.{Recovery, frame_on, from_map, ops_of}
 use Rattle.st_engine.specs.Snapshot.{has_close, has_end}
-use Rattle.st_engine.proofs.Firsts.{all-push}
 use Rattle.st_engine.proofs.Independent.{ended_frame, without_older}
 
 first : (a b : Bool) → (a && b) ≡ true → a ≡ true
@@ -28,6 +27,10 @@ or-left a b e = ap (λ (t : Bool). t || b) e
 or-right : (a b : Bool) → b ≡ true → (a || b) ≡ true
 or-right true b e = refl
 or-right false b e = e
+
+all-push : {X : Type 0} → (P : X → Type 0) (xs : List X) (x : X) → AllByRecursion P xs → P x → AllByRecursion P (xs ++ x ∷ [])
+all-push P [] x all here = (here, tt)
+all-push P (y ∷ xs) x all here = (all.0, all-push P xs x all.1 here)
 
 abbrev pub is_nil : List Frame → Bool
 is_nil [] = true

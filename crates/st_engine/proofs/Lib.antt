@@ -1,7 +1,6 @@
 mod Cases
 mod Gaps
 mod Above
-mod Firsts
 mod Sorted
 mod Independent
 mod Snapshots

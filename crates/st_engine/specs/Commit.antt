@@ -6,9 +6,9 @@ use Rattle.st_fold.specs.Map.{Map}
 use Rattle.st_ops.specs.Spelling.{spelt}
 use Rattle.st_ops.specs.declared.op.Op.{Op}
 use Rattle.st_queue.specs.Frames.{Damage}
-use Rattle.st_queue.specs.Place.{next_place, spent}
+use Rattle.st_queue.specs.Place.{next_file, next_generation, next_number, next_place, spent}
 use Rattle.st_queue.specs.Queue.{IsSpent, end_behind, is_due, is_due_at}
-use Rattle.st_queue.specs.Writing.{HasLess, frame_of, frames_now, frames_of}
+use Rattle.st_queue.specs.Writing.{HasLess, appended, entered, frame_of, frames_now, frames_of, recycled}
 use Rattle.st_queue.specs.declared.frame.Frame.{Frame}
 use Rattle.st_queue.specs.declared.place.Place.{Place}
 use Rattle.st_queue.specs.declared.state.State.{State}
@@ -24,6 +24,17 @@ place_behind state (Some place) = if is_due_at state (Some place) then next_plac
 
 abbrev pub frame_place : State → Place
 frame_place state = place_behind state state.current
+
+-- the disk once a next file is made ready and entered, where one is due
+abbrev pub begun : State → History → History
+begun state h =
+    if is_due state
+    then entered (next_file state.current) (recycled (next_file state.current) (next_generation state.current) (next_number state.current) h)
+    else h
+
+-- the disk behind all calls of a commit with this payload
+abbrev pub committed : State → List ℕ → History → History
+committed state payload h = appended (frame_place state) payload (begun state h)
 
 -- the next frame, with this payload
 abbrev pub next_frame : State → List ℕ → Frame

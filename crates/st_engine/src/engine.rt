@@ -55,7 +55,7 @@ struct Prepared {
 
 impl<D: Disk> Engine<D> {
     ghost use Rattle.std.specs.Option.{option_map};
-    ghost use Rattle.st_engine.specs.Commit.{IsPastLimit, ToldFewer, ToldOneMore, next_frame, frame_place, payload_of};
+    ghost use Rattle.st_engine.specs.Commit.{IsPastLimit, ToldFewer, ToldOneMore, committed, next_frame, frame_place, payload_of};
     ghost use Rattle.st_engine.specs.Engine.{Keeps, KeepsAnEnd, MountsTo, MountsToEither, ToldHoldsMap, ToldStandsOn, began_behind, is_ended_by, is_none_read, points_of};
     ghost use Rattle.st_engine.specs.Replay.{map_of, ops_on};
     ghost use Rattle.st_engine.specs.Snapshot.{cursor_behind, room_of, whole_of};
@@ -131,6 +131,8 @@ impl<D: Disk> Engine<D> {
         ensures holds { self.new.state.broken ≡ None → ToldHoldsMap (D.history self.new.disk) self.new.pairs }
         ensures appends { OnOk result (ToldOneMore self.old.state.discarded (next_frame self.old.state (payload_of self.old.quota self.old.cursor self.old.pairs ops.now))
             (D.history self.old.disk) (D.history self.new.disk)) }
+        ensures calls { OnOk result (D.history self.new.disk
+            ≡ option_map (committed self.old.state (payload_of self.old.quota self.old.cursor self.old.pairs ops.now)) (D.history self.old.disk)) }
         ensures stays { IfErr result (λ _. self.new.state.broken ≡ None
             → ToldFewer self.old.state.discarded (D.history self.old.disk) (D.history self.new.disk)) }
         ensures place { OnOk result (self.new.state.current ≡ Some (behind_frame (frame_place self.old.state) (payload_of self.old.quota self.old.cursor self.old.pairs ops.now))) }

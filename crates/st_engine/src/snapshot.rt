@@ -3,17 +3,16 @@ ghost use Rattle.std.specs.Prelude.{◌≡◌, ◌<◌, ◌+◌, ◌++◌, ◌�
 ghost use Rattle.std.specs.List.{AllByRecursion, list_any};
 ghost use Rattle.std.specs.Cmp.Lexicographic.{slice_cmp};
 ghost use Rattle.std.specs.FinMap.Entries.{is_sorted};
-ghost use Rattle.std.specs.Option.{option_map};
 ghost use Rattle.std.specs.Ordering.{nat_cmp};
 ghost use Rattle.st_engine.specs.Snapshot.{cursor_behind, is_end, room_of, size_of, snap, still_of};
 ghost use Rattle.st_ops.specs.Grammar.{Fits};
 ghost use Rattle.st_ops.specs.declared.op.Op.TheVariants.{Commit, SnapItem};
-ghost use Rattle.st_ptree.specs.Entries.{first_of, pairs_of};
+ghost use Rattle.st_ptree.specs.Entries.{pairs_of};
 
 use crate::writing::copy;
 use bytes::Bytes;
 use st_ops::Op;
-use st_ptree::{PTree, Steps, pairs_are_a_map};
+use st_ptree::{Iter, PTree, Steps, pairs_are_a_map};
 use std::alloc::{AllocError, Global};
 use std::marker::Brand;
 use std::sync::ledger::{Blank, Ledger};
@@ -41,22 +40,19 @@ fn push_item(out: &mut Vec<Op>, key: &Bytes, value: &Bytes, room: u64) -> Result
     )
 }
 
-// The first pair that the snapshot has still to write.
-fn first_still<'a, L: Ledger>(
+// The pairs that the snapshot has still to write.
+fn still<'a, L: Ledger>(
     pairs: &'a PTree<Bytes>,
     cursor: &Option<Bytes>,
     steps: &mut Steps<L>,
-) -> Option<(&'a Bytes, &'a Bytes)>
-    ensures first { option_map (λ found. (found.0.now, found.1.now)) result ≡ first_of (still_of cursor.now (pairs_of pairs.now)) }
+) -> Iter<'a, Bytes>
+    ensures still { result ≡ still_of cursor.now (pairs_of pairs.now) }
     ensures ordered { IsTrue (is_sorted (slice_cmp nat_cmp) (pairs_of pairs.now)) }
 {
     pairs_are_a_map::<Bytes>();
     match cursor {
-        Some(last) => pairs.next_after(last.as_slice(), steps),
-        None => match pairs.last_at_or_below(&[], steps) {
-            Some(found) => Some(found),
-            None => pairs.next_after(&[], steps),
-        },
+        Some(last) => pairs.iter_above(last.as_slice(), steps),
+        None => pairs.iter(),
     }
 }
 
@@ -81,7 +77,7 @@ fn push_next<L: Ledger>(
     ensures ended { IfOk result (λ next. next.ended ≡ list_any is_end (snap cursor room (pairs_of pairs.now))) }
     ensures ordered { IsTrue (is_sorted (slice_cmp nat_cmp) (pairs_of pairs.now)) }
 {
-    while let Some((key, value)) = first_still(pairs, &cursor, steps) {
+    for (key, value) in still(pairs, &cursor, steps) {
         if room == 0 {
             return Ok(Next {
                 cursor,

@@ -541,6 +541,7 @@ fn each_stop_among_turning_files_leaves_its_map(rt: HostRuntime) -> Result<(), F
         assert_eq!(rt; stops, calls, "{seed}");
         mounts = mounts.wrapping_add(stops.wrapping_mul(16));
     }
+    println!(rt; "{mounts} mounts")?;
     assert_eq!(rt; mounts, 3776);
     Ok(())
 }

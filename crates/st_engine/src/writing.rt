@@ -1,9 +1,10 @@
 // Appends the payloads of commits to a queue.
 ghost use Rattle.std.specs.Prelude.{max, if◌then◌else◌, ◌≡◌, ◌↔◌, ◌⊎◌, ◌++◌, ◌∷◌, [], ℕ, Some, None, Ok, Err, IsTrue, IfOk, IfErr, OnOk};
 ghost use Rattle.std.specs.List.{AllByRecursion, list_all};
+ghost use Rattle.std.specs.Option.{option_map};
 ghost use Rattle.std.specs.Result.{IsErrAnd};
 ghost use Rattle.st_disk.specs.Moments.{ToldLeavesOnly};
-ghost use Rattle.st_engine.specs.Commit.{HasLessOrMore, HasNoNextFile, IsPastLimit, ToldFewer, ToldOneMore, next_frame, frame_place, payload_of};
+ghost use Rattle.st_engine.specs.Commit.{HasLessOrMore, HasNoNextFile, IsPastLimit, ToldFewer, ToldOneMore, begun, committed, next_frame, frame_place, payload_of};
 ghost use Rattle.st_ops.specs.declared.op.Op.TheVariants.{Commit};
 ghost use Rattle.st_ops.specs.Grammar.{Fits, is_change};
 ghost use Rattle.st_ops.specs.Reading.{reading};
@@ -39,6 +40,7 @@ fn enter_due<D: Disk>(queue: &mut Queue<D>) -> Result<(), QueueRefusal>
     ensures stands { queue.new.state.broken ≡ None → ToldSettled (D.history queue.new.disk) queue.new.state.current }
     ensures frames { queue.old.state.broken ≡ None → queue.new.state.broken ≡ None
         → ToldFewer queue.old.state.discarded (D.history queue.old.disk) (D.history queue.new.disk) }
+    ensures calls { OnOk result (D.history queue.new.disk ≡ option_map (begun queue.old.state) (D.history queue.old.disk)) }
     ensures discarded { queue.new.state.discarded ≡ queue.old.state.discarded }
     ensures limit { queue.new.state.limit ≡ queue.old.state.limit }
     ensures ok { OnOk result (queue.new.state.current ≡ Some (frame_place queue.old.state)) }
@@ -68,6 +70,7 @@ pub(crate) fn append<D: Disk>(queue: &mut Queue<D>, payload: &[u8]) -> Result<u6
     ensures stands { queue.new.state.broken ≡ None → ToldSettled (D.history queue.new.disk) queue.new.state.current }
     ensures appends { OnOk result (queue.old.state.broken ≡ None
         × ToldOneMore queue.old.state.discarded (next_frame queue.old.state payload.now) (D.history queue.old.disk) (D.history queue.new.disk)) }
+    ensures calls { OnOk result (D.history queue.new.disk ≡ option_map (committed queue.old.state payload.now) (D.history queue.old.disk)) }
     ensures stays { IfErr result (λ _. queue.new.state.broken ≡ None
         → ToldFewer queue.old.state.discarded (D.history queue.old.disk) (D.history queue.new.disk)) }
     ensures discarded { queue.new.state.discarded ≡ queue.old.state.discarded }

@@ -7,7 +7,8 @@ use Rattle.st_queue.specs.declared.frame.QueueRefusal.{QueueRefusal}
 use Rattle.st_queue.specs.declared.frame.QueueRefusal.TheVariants.{Broken, Full}
 use Rattle.st_queue.specs.declared.state.State.{State}
 use Rattle.st_engine.proofs.Cases.{no-fault, same_Err}
-use Rattle.st_engine.proofs.Histories.{joined-more, one-more, still-less}
+use Rattle.st_engine.specs.Commit.{begun, frame_place}
+use Rattle.st_engine.proofs.Histories.{joined-more, one-more, option_map-twice, still-less}
 use Rattle.st_engine.proofs.Refusals.{outside, past-before, past-now, refused-frames, unbroken-before, untold-frames}
 use Rattle.st_engine.proofs.writing.append.Goals as goal
 
@@ -98,6 +99,15 @@ returns-clause-appends g c =
     let old : c.args.queue.now.state.broken ≡ None = no-fault c.args.queue.now.state.broken (λ faults is. let failed = (c.append.ensures.broken faults).1 (kept ∙ is) in let done = c.in_ok-seq.was in cc (failed, done)) in
     let mid = kept ∙ old in
     (old, one-more _ _ _ _ _ _ (c.enter_due.ensures.frames old mid) (c.enter_due.ensures.stands mid) (c.in_ok-seq.ensures.appends mid _ c.in_ok-enter_due.ensures.ok).frames)
+
+pub returns-clause-calls : goal.returns-clause-calls
+returns-clause-calls g c =
+    let state = c.args.queue.now.state in
+    let mid : c.enter_due.new.queue.state.broken ≡ None =
+    no-fault c.enter_due.new.queue.state.broken (λ faults is. let failed = (c.append.ensures.broken faults).1 is in let done = c.in_ok-seq.was in cc (failed, done)) in
+    (c.in_ok-seq.ensures.appends mid _ c.in_ok-enter_due.ensures.ok).calls
+    ∙ ap (option_map (appended (frame_place state) c.args.payload.now)) c.in_ok-enter_due.ensures.calls
+    ∙ option_map-twice (begun state) (appended (frame_place state) c.args.payload.now) (g.D.Disk.history c.args.queue.now.disk)
 
 pub returns-clause-broken : goal.returns-clause-broken
 returns-clause-broken g c = λ faults. (

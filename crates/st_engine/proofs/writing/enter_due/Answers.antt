@@ -1,4 +1,4 @@
-use Rattle.std.proofs.Common.{◌∙◌, ap, sym, Err, Some}
+use Rattle.std.proofs.Common.{◌≡◌, ◌∙◌, ap, sym, Err, Some, None}
 use Rattle.std.proofs.lemmas.Bool.{false≢true}
 use Rattle.std.proofs.lemmas.Result.{err_from_is_err_and}
 use Rattle.std.specs.Option.{option_map}
@@ -8,8 +8,8 @@ use Rattle.st_engine.proofs.Refusals.{due-place, else-place, entering-writing, n
 use Rattle.st_queue.specs.declared.frame.QueueRefusal.{QueueRefusal}
 use Rattle.st_queue.specs.declared.frame.QueueRefusal.TheVariants.{Broken, Full}
 use Rattle.st_queue.specs.declared.state.State.{State}
-use Rattle.st_engine.proofs.Cases.{same_Err}
-use Rattle.st_engine.proofs.Histories.{less-now, joined-frames, leaves-less, all-less}
+use Rattle.st_engine.proofs.Cases.{no-fault, same_Err}
+use Rattle.st_engine.proofs.Histories.{less-now, joined-frames, leaves-less, all-less, then-begun}
 use Rattle.st_engine.proofs.writing.enter_due.Goals as goal
 
 pub returns-in_err-recycle-clause-frames : goal.returns-in_err-recycle-clause-frames
@@ -43,6 +43,17 @@ returns-in_ok-enter_next-clause-any_moment g c = λ old.
     let still = ap (λ (s : State). s.broken) ok ∙ old in
     let less = less-now _ _ _ _ (c.recycle.ensures.any_moment old) (c.recycle.ensures.stands still) in
     joined-frames _ _ _ _ (c.recycle.ensures.any_moment old) less (c.enter_next.ensures.enters still (next_place c.args.queue.now.state.current) (ap (λ (s : State). s.prepared) ok)).any_moment
+
+pub returns-in_ok-enter_next-clause-calls : goal.returns-in_ok-enter_next-clause-calls
+returns-in_ok-enter_next-clause-calls g c =
+    let state = c.args.queue.now.state in
+    let told = g.D.Disk.history c.args.queue.now.disk in
+    let ok = c.in_ok-recycle.ensures.ok in
+    let mid : c.recycle.new.self.state.broken ≡ None =
+    no-fault c.recycle.new.self.state.broken (λ faults is. let failed = (c.enter_next.ensures.broken faults).1 is in let done = c.in_ok-enter_next.was in cc (failed, done)) in
+    (c.in_ok-enter_next.ensures.enters mid (next_place state.current) (ap (λ (s : State). s.prepared) ok)).calls
+    ∙ ap (option_map (entered (next_file state.current))) c.in_ok-recycle.ensures.calls
+    ∙ then-begun state told (sym c.due.ensures.due ∙ c.if-due.true)
 
 pub returns-in_ok-enter_next-clause-frames : goal.returns-in_ok-enter_next-clause-frames
 returns-in_ok-enter_next-clause-frames g c = λ old new.

@@ -1,9 +1,9 @@
 -- Canonical lists of spans stay so, and two that hold the same keys are equal.
-use Rattle.std.proofs.Common.{◌≡◌, ℕ, Bool, true, false, not, ◌&&◌, ◌||◌, List, [], ◌∷◌, ◌++◌, refl, sym, ap, ◌∙◌, subst, inl, inr}
+use Rattle.std.proofs.Common.{◌≡◌, ℕ, Bool, true, false, not, ◌&&◌, ◌||◌, List, [], ◌∷◌, ◌++◌, refl, sym, ap, ◌∙◌, subst, inl, inr, Some}
 use Rattle.std.proofs.Math.Bool.{cond}
 use Rattle.std.proofs.lemmas.Bool.{cond_both, and_parts, and_from, and_left, or_cases, or_left, or_from, false_from_ne_true, both_ways, not-true, not_from_false, cases_Bool}
 use Rattle.std.proofs.lemmas.List.Folds.{list_all-append}
-use Rattle.std.specs.List.{list_all}
+use Rattle.std.specs.List.{list_all, slice_get}
 use Rattle.st_key.specs.KeyOrder.{less_irrefl, less_trans, less_asym, less_connected, le_less_trans, less_le_trans}
 use Rattle.st_key.specs.Parts.{least, greatest, hull, part_below, part_from, with_span, without_span}
 use Rattle.st_key.specs.Spans.{Span, key_less, within, holds, is_canonical}
@@ -32,7 +32,7 @@ canonical-cons s later filled apart rest =
     (and_from (key_less s.begin s.end) (all_above s.end later) filled apart) rest
 
 -- what begins above a key begins above each lesser one
-above_less : (a b : List ℕ) (l : List Span) → key_less a b ≡ true → all_above b l ≡ true → all_above a l ≡ true
+pub above_less : (a b : List ℕ) (l : List Span) → key_less a b ≡ true → all_above b l ≡ true → all_above a l ≡ true
 above_less a b [] ab h = refl
 above_less a b (t ∷ l) ab h =
     let parts = and_parts (key_less b t.begin) (all_above b l) h in
@@ -270,3 +270,34 @@ one_form (s ∷ ss) (t ∷ ts) a b same =
       where
         or_out : (x y : Bool) → x ≡ false → (x || y) ≡ y
         or_out x y e = rw e refl
+
+-- one span more behind a span: it begins above that one's end
+pub behind-more : (s t : Span) (later : List Span) → key_less s.begin s.end ≡ true → key_less t.begin t.end ≡ true
+    → is_canonical (s ∷ t ∷ later) ≡ (key_less s.end t.begin && is_canonical (t ∷ later))
+behind-more s t later filled next = by_tests (key_less s.end t.begin) (is_canonical (t ∷ later)) refl refl
+  where
+    broken : (key_less s.end t.begin && is_canonical (t ∷ later)) ≡ false → is_canonical (s ∷ t ∷ later) ≡ (key_less s.end t.begin && is_canonical (t ∷ later))
+    broken none =
+        false_from_ne_true (is_canonical (s ∷ t ∷ later)) (λ canonical.
+        let f = first s (t ∷ later) canonical in
+        both_ways (key_less s.end t.begin && is_canonical (t ∷ later)) none
+        (and_from (key_less s.end t.begin) (is_canonical (t ∷ later)) (and_parts (key_less s.end t.begin) (all_above s.end later) f.apart).0 f.rest))
+        ∙ sym none
+
+    by_tests : (a b : Bool) → key_less s.end t.begin ≡ a → is_canonical (t ∷ later) ≡ b → is_canonical (s ∷ t ∷ later) ≡ (key_less s.end t.begin && is_canonical (t ∷ later))
+    by_tests true true apart rest =
+        canonical-cons s (t ∷ later) filled
+        (and_from (key_less s.end t.begin) (all_above s.end later) apart (above_less s.end t.end later (less_trans s.end t.begin t.end apart next) (first t later rest).apart))
+        rest
+        ∙ sym (and_from (key_less s.end t.begin) (is_canonical (t ∷ later)) apart rest)
+    by_tests true false apart rest = broken (λ i. apart i && rest i)
+    by_tests false b apart rest = broken (ap (λ (x : Bool). x && is_canonical (t ∷ later)) apart)
+
+-- and where the first of the spans behind it is known
+pub behind-first : (s next : Span) (later : List Span) → Some next ≡ slice_get later 0 → key_less s.begin s.end ≡ true → key_less next.begin next.end ≡ true
+    → is_canonical (s ∷ later) ≡ (key_less s.end next.begin && is_canonical later)
+behind-first s next [] is filled next_filled = absurd (cc (is))
+behind-first s next (t ∷ later) is filled next_filled =
+    let one : next ≡ t = cc (is) in
+    subst (λ (x : Span). is_canonical (s ∷ t ∷ later) ≡ (key_less s.end x.begin && is_canonical (t ∷ later))) (sym one)
+    (behind-more s t later filled (subst (λ (x : Span). key_less x.begin x.end ≡ true) one next_filled))

@@ -3,3 +3,4 @@ pub mod Cover
 pub mod Examples
 pub mod Joining
 pub mod Members
+pub mod Subset

@@ -1,5 +1,6 @@
 -- Spans made of other spans.
-use Rattle.std.specs.Prelude.{ℕ, Bool, not, ◌&&◌, List, [], ◌∷◌, ◌++◌, if◌then◌else◌}
+use Rattle.std.specs.Prelude.{ℕ, Bool, false, not, ◌&&◌, List, [], ◌∷◌, ◌++◌, drop, if◌then◌else◌}
+use Rattle.std.specs.List.{list_any, prefix_len}
 use Rattle.st_key.specs.Spans.{Span, key_less}
 
 -- the lesser of two keys
@@ -17,6 +18,19 @@ hull s t = record { begin = least s.begin t.begin; end = greatest s.end t.end }
 -- the span has every key from low up to high
 abbrev pub has_all : List ℕ → List ℕ → Span → Bool
 has_all low high s = not (key_less low s.begin) && not (key_less s.end high)
+
+-- some one of the spans has every key of this one
+abbrev pub lies_in : List Span → Span → Bool
+lies_in spans span = list_any (λ s. has_all span.begin span.end s) spans
+
+-- the spans from the first one on that ends at the key or above it
+abbrev pub ending_from : List Span → List ℕ → List Span
+ending_from spans key = drop (prefix_len (λ s. key_less s.end key) spans) spans
+
+-- the first of the spans begins at the key or below it
+abbrev pub begins_by : List Span → List ℕ → Bool
+begins_by [] key = false
+begins_by (s ∷ later) key = not (key_less key s.begin)
 
 -- the part of the span that lies below the key, if there is one
 abbrev pub part_below : Span → List ℕ → List Span

@@ -31,6 +31,10 @@ is_canonical [] = true
 is_canonical (span ∷ later) =
     key_less span.begin span.end && list_all (λ next. key_less span.end next.begin) later && is_canonical later
 
+-- every key of the first spans is one of the others'
+abbrev pub IsSubset : List Span → List Span → Type 0
+IsSubset few many = (key : List ℕ) → IsTrue (holds few key) → IsTrue (holds many key)
+
 -- every key of the span is in one of the list
 abbrev pub Covers : List Span → Span → Type 0
 Covers spans span = (key : List ℕ) → IsTrue (within span key) → IsTrue (holds spans key)

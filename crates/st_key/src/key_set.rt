@@ -1,9 +1,9 @@
 //! Sets of keys.
 ghost use Rattle.std.specs.Bool.{OnFalse};
-ghost use Rattle.std.specs.Prelude.{◌≡◌, ℕ, false, ◌&&◌, ◌||◌, ◌++◌, drop, not, [], ◌∷◌, List, IsTrue, IfOk, OnOk, OnErr, ◌↔◌};
-ghost use Rattle.st_key.specs.Spans.{Span, key_less, within, holds, is_canonical, Covers, Misses};
-ghost use Rattle.std.specs.List.{list_any};
-ghost use Rattle.st_key.specs.Parts.{has_all, with_span, without_span};
+ghost use Rattle.std.specs.Prelude.{◌≡◌, ℕ, false, ◌&&◌, ◌||◌, ◌++◌, drop, not, [], ◌∷◌, ◌≤◌, length, List, IsTrue, IfOk, MatchResult, OnOk, OnErr, ◌↔◌};
+ghost use Rattle.st_key.specs.Spans.{Span, key_less, within, holds, is_canonical, Covers, IsSubset, Misses};
+ghost use Rattle.std.specs.List.{list_all, list_any, prefix_len};
+ghost use Rattle.st_key.specs.Parts.{begins_by, ending_from, has_all, lies_in, with_span, without_span};
 
 use crate::{Key, Range};
 use std::alloc::{AllocError, Global};
@@ -47,6 +47,20 @@ impl Ranges {
         Ok(Ranges { pieces })
     }
 
+    /// The set of ranges that rise and don't touch. Others are handed back. It takes no memory, and time linear in their
+    /// number.
+    pub fn from_vec(pieces: Vec<Range>) -> Result<Ranges, Vec<Range>>
+        ensures { MatchResult result
+            (λ set. IsTrue (is_canonical pieces.items) × (set ≡ pieces.items))
+            (λ why. (is_canonical pieces.items ≡ false) × (why.items ≡ pieces.items)) }
+    {
+        if are_apart(&pieces) {
+            Ok(Ranges { pieces })
+        } else {
+            Err(pieces)
+        }
+    }
+
     /// Puts the keys of `r` into the set. Takes time linear in the number of pieces.
     pub fn add(&mut self, r: &Range) -> Result<(), AllocError>
         ensures ok { OnOk result ((key : List ℕ)
@@ -75,6 +89,21 @@ impl Ranges {
         ensures missed { OnFalse result (Misses self.now r.now) }
     {
         self.has_in_one_piece(r.begin(), r.end())
+    }
+
+    /// Whether every key of the set is in the other one. Takes time linear in the pieces of both.
+    pub fn is_subset(&self, other: &Ranges) -> bool
+        ensures value { result ≡ list_all (lies_in other.now) self.now }
+        ensures subset { IsTrue result ↔ IsSubset self.now other.now }
+    {
+        let mut left = other.pieces();
+        for piece in self.pieces() {
+            left = ending_from(left, piece.end());
+            if !begins_by(left, piece.begin()) {
+                return false;
+            }
+        }
+        true
     }
 
     /// Whether the key is in the set.
@@ -150,5 +179,59 @@ impl Clone for Ranges {
         Ok(Ranges {
             pieces: self.pieces.clone()?,
         })
+    }
+}
+
+// Whether each range ends below the next one.
+fn are_apart(pieces: &[Range]) -> bool
+    ensures { result ≡ is_canonical pieces.now }
+{
+    for (at, piece) in pieces.iter().enumerate() {
+        if !is_apart(piece, &pieces[at + 1..]) {
+            return false;
+        }
+    }
+    true
+}
+
+// Whether the range ends below the first of these.
+fn is_apart(piece: &Range, later: &[Range]) -> bool
+    ensures { is_canonical (piece.now ∷ later.now) ≡ (result && is_canonical later.now) }
+{
+    let _ = piece.begin();
+    match later.first() {
+        Some(next) => {
+            let _ = next.begin();
+            piece.ends_before(next)
+        }
+        None => true,
+    }
+}
+
+// The ranges from the first one on that ends at the key or above it.
+fn ending_from<'a>(pieces: &'a [Range], key: &Key) -> &'a [Range]
+    ensures { result.now ≡ ending_from pieces.now key.now }
+{
+    &pieces[count_below(pieces, key)..]
+}
+
+// How many ranges at the front end below the key.
+fn count_below(pieces: &[Range], key: &Key) -> usize
+    ensures value { result ≡ prefix_len (λ s. key_less s.end key.now) pieces.now }
+    ensures within { result ≤ length pieces.now }
+{
+    pieces
+        .iter()
+        .take_while(|piece| *piece.end() < *key)
+        .count()
+}
+
+// Whether the first of the ranges begins at the key or below it.
+fn begins_by(pieces: &[Range], key: &Key) -> bool
+    ensures { result ≡ begins_by pieces.now key.now }
+{
+    match pieces.first() {
+        Some(first) => *key >= *first.begin(),
+        None => false,
     }
 }

@@ -81,3 +81,51 @@ fn a_removed_middle_leaves_two(rt: HostRuntime) -> Result<(), Fail> {
     assert!(rt; set.contains(b"f"));
     Ok(())
 }
+
+// The ranges that the pairs of ends are, one after another.
+fn ranges(alloc: Global, ends: &[(&[u8], &[u8])]) -> Result<Vec<Range>, Fail> {
+    let mut out = Vec::new(alloc);
+    for (begin, end) in ends {
+        out.push(range(alloc, begin, end)?)?;
+    }
+    Ok(out)
+}
+
+#[test]
+fn ranges_that_rise_and_are_apart_make_a_set(rt: HostRuntime) -> Result<(), Fail> {
+    let rows: [(&[(&[u8], &[u8])], bool); 5] = [
+        (&[], true),
+        (&[(b"b", b"d"), (b"e", b"f"), (b"m", b"p")], true),
+        (&[(b"b", b"d"), (b"d", b"f")], false),
+        (&[(b"b", b"d"), (b"e", b"p"), (b"f", b"m")], false),
+        (&[(b"m", b"p"), (b"b", b"d")], false),
+    ];
+    for (ends, want) in rows {
+        let pieces = ranges(rt.alloc(), ends)?;
+        match Ranges::from_vec(pieces) {
+            Ok(set) => assert_eq!(rt; (want, set.pieces().len()), (true, ends.len())),
+            Err(pieces) => assert_eq!(rt; (want, pieces.len()), (false, ends.len())),
+        }
+    }
+    Ok(())
+}
+
+#[test]
+fn a_set_is_a_subset_where_each_piece_lies_in_one(rt: HostRuntime) -> Result<(), Fail> {
+    let alloc = rt.alloc();
+    let set = set_of(alloc, &[(b"b", b"d"), (b"f", b"m"), (b"p", b"q")])?;
+    let rows: [(&[(&[u8], &[u8])], bool); 6] = [
+        (&[], true),
+        (&[(b"f", b"g"), (b"h", b"m"), (b"p", b"q")], true),
+        (&[(b"b", b"c"), (b"e", b"g")], false),
+        (&[(b"c", b"e")], false),
+        (&[(b"b", b"m")], false),
+        (&[(b"q", b"r")], false),
+    ];
+    for (ends, want) in rows {
+        let part = set_of(alloc, ends)?;
+        assert_eq!(rt; part.is_subset(&set), want);
+    }
+    assert!(rt; !set.is_subset(&Ranges::new(alloc)));
+    Ok(())
+}

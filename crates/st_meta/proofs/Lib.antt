@@ -1,0 +1,4 @@
+mod Rows
+pub mod Spans
+pub mod States
+pub mod Values

@@ -1,0 +1,17 @@
+//! The versions of a map above a base: what each of them decides, and the map that it is over the base.
+#![tactic(auto)]
+
+mod bound;
+mod change;
+mod laws;
+mod overlay;
+mod root;
+#[cfg(test)]
+mod tests;
+mod window;
+
+pub use change::{Change, Dated};
+pub use laws::{abandoning_undoes, above_a_base_is_the_same_map};
+pub use overlay::Overlay;
+pub use root::Root;
+pub use window::Window;

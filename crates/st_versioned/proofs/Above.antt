@@ -12,14 +12,14 @@ use Rattle.st_versioned.specs.declared.change.Change.TheVariants.{Set, Clear, Er
 use Rattle.st_versioned.specs.declared.change.Dated.{Dated}
 
 -- what changes decide of a key behind a decision
-abbrev decided_behind : List ℕ → Decision → List Dated → Decision
+abbrev pub decided_behind : List ℕ → Decision → List Dated → Decision
 decided_behind key before changes = fold (λ b dated. behind b dated.version dated.change key) before changes
 
 -- changes leave each decision on a key as it is, or decide the key whatever was decided before
-abbrev Leaves : List ℕ → List Dated → Type 0
+abbrev pub Leaves : List ℕ → List Dated → Type 0
 Leaves key changes = (before : Decision) → decided_behind key before changes ≡ before
 
-abbrev Decides : List ℕ → List Dated → Type 0
+abbrev pub Decides : List ℕ → List Dated → Type 0
 Decides key changes = (before : Decision) → decided_behind key before changes ≡ decided_behind key None changes
 
 one : (key : List ℕ) (version : ℕ) (change : Change) → ((before : Decision) → behind before version change key ≡ before) ⊎ ((before : Decision) → behind before version change key ≡ behind None version change key)
@@ -39,7 +39,7 @@ one key version (Erase span) = by_test (within span key)
     by_test true = inr (λ before. refl)
     by_test false = inl (λ before. refl)
 
-all : (key : List ℕ) (changes : List Dated) → Leaves key changes ⊎ Decides key changes
+pub all : (key : List ℕ) (changes : List Dated) → Leaves key changes ⊎ Decides key changes
 all key [] = inl (λ before. refl)
 all key (dated ∷ later) = by_cases (one key dated.version dated.change) (all key later)
   where
@@ -61,7 +61,7 @@ all_above version low lt (dated ∷ later) above =
     )
 
 -- changes are those up to a version, and then those above it
-parted : (version newest : ℕ) (root : List Dated) → is_dated newest root ≡ true → made_to version root ++ made_above version root ≡ root
+pub parted : (version newest : ℕ) (root : List Dated) → is_dated newest root ≡ true → made_to version root ++ made_above version root ≡ root
 parted version newest [] dated = refl
 parted version newest (first ∷ later) dated = by_test (nat_le first.version version) refl (parted version newest later parts.1)
   where

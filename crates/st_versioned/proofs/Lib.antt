@@ -1,4 +1,5 @@
 pub mod Above
+pub mod Later
 pub mod Bases
 pub mod Firsts
 pub mod Rows

@@ -1,5 +1,5 @@
 -- What the changes of a window decide of each key.
-use Rattle.std.specs.Prelude.{ℕ, Bool, List, if◌then◌else◌, fold, Option, Some, None}
+use Rattle.std.specs.Prelude.{ℕ, nat_lt, Bool, List, if◌then◌else◌, fold, Option, Some, None}
 use Rattle.std.specs.Cmp.Lexicographic.{slice_cmp}
 use Rattle.std.specs.FinMap.Entries.{find}
 use Rattle.std.specs.Option.{option_map, unwrap_or}
@@ -32,6 +32,11 @@ behind before version (Erase span) key = if within span key then None else befor
 -- what changes decide of a key, the newest of them last
 abbrev pub decided : List Dated → List ℕ → Decision
 decided changes key = fold (λ before dated. behind before dated.version dated.change key) None changes
+
+-- what was decided above a version
+abbrev pub decision_above : ℕ → Decision → Decision
+decision_above version None = None
+decision_above version (Some found) = if nat_lt version found.0 then Some found else None
 
 -- the value that is decided, where one is: a value, or that there is none
 abbrev pub told : Decision → Option (Option (List ℕ))

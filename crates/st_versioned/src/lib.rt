@@ -11,7 +11,7 @@ mod tests;
 mod window;
 
 pub use change::{Change, Dated};
-pub use laws::{abandoning_undoes, above_a_base_is_the_same_map};
+pub use laws::{abandoning_undoes, above_a_base_is_the_same_map, decisions_above_stay};
 pub use overlay::Overlay;
 pub use root::Root;
 pub use window::Window;

@@ -1,6 +1,6 @@
 //! The versions that are kept.
 ghost use Rattle.std.specs.Prelude.{◌≡◌, ◌<◌, ◌≤◌, ◌⊎◌, ◌↔◌, [], ◌∷◌, None, Some, IfOk, OnErr, OnOk, IsNone, IsSome};
-ghost use Rattle.std.specs.Option.{option_map};
+ghost use Rattle.std.specs.Option.{option_copied, option_map};
 ghost use Rattle.st_versioned.specs.Window.{Stands, abandoned, begun, forgot, last_to, made_above, mutations_to, newest_root, root_of, sealed, with_change, with_mutation};
 ghost use Rattle.st_versioned.specs.declared.change.Change.TheVariants.{Set as set_change, Clear as clear_change, Erase as erase_change};
 ghost use Rattle.st_mutation.specs.declared.batch.Mutation.TheVariants.{Set as set_mutation, Clear as clear_mutation};
@@ -165,6 +165,17 @@ impl Window {
     {
         let change = Change::Erase(range.clone()?);
         self.change(change)
+    }
+
+    /// The root of the version in the making.
+    pub fn making(&self) -> Option<&Root>
+        ensures root { option_copied result ≡ option_map (λ kept. kept.root) self.now.making }
+        ensures stands { Stands self.now }
+    {
+        match &self.making {
+            Some(kept) => Some(&kept.root),
+            None => None,
+        }
     }
 
     /// Makes the version readable that is in the making. It takes no memory.

@@ -1,0 +1,106 @@
+-- A batch more on a board.
+use Rattle.std.proofs.Common.{◌≡◌, ◌∙◌, ◌<◌, ◌++◌, ◌==◌, ℕ, Bool, true, false, cond, nat_lt, nat_le, leb-false, List, [], ◌∷◌, map, fold, Option, Some, None, refl, sym, ap, subst, arith}
+use Rattle.std.specs.List.{AllByRecursion, find, list_any}
+use Rattle.st_model.specs.Trace.{is_end, state_after}
+use Rattle.std.proofs.lemmas.Bool.Decides.{nat_tests}
+use Rattle.std.proofs.lemmas.Option.{same_Some}
+use Rattle.st_fold.specs.Map.{batches_to}
+use Rattle.st_fold.specs.Plain.{Rises}
+use Rattle.st_fold.specs.declared.report.Event.{Event}
+use Rattle.st_fold.specs.declared.report.Event.TheVariants.{Applied}
+use Rattle.st_key.specs.Spans.{Span, within}
+use Rattle.st_model.specs.Pieces.{inject, move_piece}
+use Rattle.st_model.specs.State.{Given, Opening, State, after_batch, apply_next, next_batch, step}
+use Rattle.st_model.specs.declared.piece.Piece.{Piece}
+use Rattle.st_mutation.specs.Clip.{clipped, value_by_part}
+use Rattle.st_mutation.specs.Effect.{value_by}
+use Rattle.st_mutation.specs.declared.batch.Batch.{Batch}
+use Rattle.st_mutation.specs.declared.batch.Move.{Move}
+use Rattle.st_mutation.specs.declared.batch.Mutation.{Mutation}
+use Rattle.st_versioned.specs.Root.{decided, decision_above}
+use Rattle.st_versioned.specs.Window.{Stands, Versions, begun, is_dated, made_above, sealed}
+use Rattle.st_versioned.specs.declared.change.Dated.{Dated}
+use Rattle.st_board.specs.Kept.{KeepsVersions}
+use Rattle.st_board.specs.Logs.{HasShortKey}
+use Rattle.st_board.specs.Stands.{Keeps, Standing, all_served}
+use Rattle.st_board.specs.Storing.{all_stored}
+use Rattle.st_board.proofs.Lists.{all-filter}
+use Rattle.st_board.proofs.Logs.{IsNext, is-next, next_above, none_to}
+use Rattle.st_board.proofs.Sealing.{kept-applied}
+use Rattle.st_board.proofs.Traces.{goes-on-more, legal-more}
+
+-- what is found in a list is one of it
+all-found : {X : Type 0} → (P : X → Type 0) (p : X → Bool) (xs : List X) (x : X) → AllByRecursion P xs → find p xs ≡ Some x → P x
+all-found P p [] x all is = absurd (cc (is))
+all-found P p (y ∷ xs) x all is = by_test (p y) is (all-found P p xs x all.1)
+  where
+    by_test : (t : Bool) → cond t (Some y) (find p xs) ≡ Some x → (find p xs ≡ Some x → P x) → P x
+    by_test true here later = subst P (same_Some y x here) all.0
+    by_test false here later = later here
+
+-- the batch that a life applies next is the log's next one
+next-of-log : (log : List Batch) (from upto newest : ℕ) (batch : Batch) → Rises from log → next_above (batches_to upto log) newest ≡ Some batch → next_above log newest ≡ Some batch
+next-of-log [] from upto newest batch rises is = is
+next-of-log (first ∷ log) from upto newest batch rises is = by_test (nat_le first.version upto) refl (next-of-log log first.version upto newest batch rises.1)
+  where
+    by_test : (t : Bool) → nat_le first.version upto ≡ t → (next_above (batches_to upto log) newest ≡ Some batch → next_above log newest ≡ Some batch) → next_above (first ∷ log) newest ≡ Some batch
+    by_test false past later =
+        let gt : upto < first.version = leb-false first.version upto past in
+        absurd (cc (sym (ap (λ (t : Bool). next_above (cond t (first ∷ batches_to upto log) (batches_to upto log)) newest) past ∙ ap (λ l. next_above l newest) (none_to log first.version upto rises.1 (omega arith))) ∙ is))
+    by_test true low later = by_next (nat_lt newest first.version) (sym (ap (λ (t : Bool). next_above (cond t (first ∷ batches_to upto log) (batches_to upto log)) newest) low) ∙ is)
+      where
+        by_next : (t : Bool) → cond t (Some first) (next_above (batches_to upto log) newest) ≡ Some batch → cond t (Some first) (next_above log newest) ≡ Some batch
+        by_next true here = here
+        by_next false here = later here
+
+same_number : (n : ℕ) → (n == n) ≡ true
+same_number n = grind (arith, nat_tests)
+
+module _ (given : Given) (opening : Opening) (board : Standing) (keeps : Keeps given opening board) (batch : Batch) (is : next_batch given board.state ≡ Some batch) where
+  pub next-is : IsNext given.log board.state.newest batch
+  next-is = is-next given.log 0 board.state.newest batch keeps.still.rises (next-of-log given.log 0 given.upto board.state.newest batch keeps.still.rises is)
+
+  -- a batch of such a log moves nothing
+  no_moves : batch.moves ≡ []
+  no_moves = all-found (λ b. b.moves ≡ []) (λ b. nat_lt board.state.newest b.version) (batches_to given.upto given.log) batch (all-filter (λ b. b.moves ≡ []) (λ b. nat_le b.version given.upto) given.log keeps.still.no_moves) is
+
+  pub short-keys : AllByRecursion HasShortKey batch.mutations
+  short-keys = all-found (λ b. AllByRecursion HasShortKey b.mutations) (λ b. nat_lt board.state.newest b.version) (batches_to given.upto given.log) batch (all-filter (λ b. AllByRecursion HasShortKey b.mutations) (λ b. nat_le b.version given.upto) given.log keeps.still.short) is
+
+  same_pieces : map (inject batch.version) (fold (move_piece batch.version) board.state.pieces batch.moves) ≡ board.state.pieces
+  same_pieces =
+      ap (λ (moves : List Move). map (inject batch.version) (fold (move_piece batch.version) board.state.pieces moves)) no_moves
+      ∙ ap (map (inject batch.version)) keeps.pieces
+      ∙ sym keeps.pieces
+
+  abbrev Next : State
+  Next = record board.state { newest = batch.version }
+
+  pub is_after : after_batch board.state batch ≡ Next
+  is_after = ap (λ (pieces : List Piece). record board.state { newest = batch.version; pieces = pieces }) same_pieces
+
+  stepped : step given board.state (Applied batch.version) ≡ Some Next
+  stepped =
+      ap (apply_next board.state batch.version) is
+      ∙ ap (λ (t : Bool). cond t (Some (after_batch board.state batch)) None) (same_number batch.version)
+      ∙ ap Some is_after
+
+  pub keeps-applied : ((version last : ℕ) (r : List Dated) (key : List ℕ) → is_dated last r ≡ true → decided (made_above version r) key ≡ decision_above version (decided r key))
+      → ((mutation : Mutation) (to : Span) (key : List ℕ) (before : Option (List ℕ)) → within to key ≡ true → value_by_part key before (clipped mutation to) ≡ value_by key before mutation)
+      → (window : Versions) → window ≡ sealed (all_stored board.base board.state.pieces (begun batch.version board.window) batch.mutations) → Stands window
+      → (trace : List Event) → trace ≡ board.trace ++ Applied batch.version ∷ []
+      → Keeps given opening (record { trace = trace; state = Next; window = window; base = board.base })
+  keeps-applied decided_above clip_inside window made stands trace more = record {
+    still = keeps.still;
+    legal = ap (state_after given opening) more ∙ legal-more given opening board.trace (Applied batch.version) board.state Next keeps.legal keeps.going_on stepped;
+    going_on = ap (list_any is_end) more ∙ goes-on-more board.trace (Applied batch.version) keeps.going_on refl;
+    oldest = keeps.oldest;
+    pieces = keeps.pieces;
+    available = keeps.available;
+    versions =
+        subst (λ w. KeepsVersions given.log board.state.durable batch.version w board.base) (sym one)
+        (kept-applied given.log board.state.durable board.state.newest board.window board.base keeps.versions batch next-is decided_above clip_inside (subst Stands one stands));
+  }
+    where
+      one : window ≡ sealed (all_stored board.base all_served (begun batch.version board.window) batch.mutations)
+      one = made ∙ ap (λ pieces. sealed (all_stored board.base pieces (begun batch.version board.window) batch.mutations)) keeps.pieces

@@ -1,0 +1,13 @@
+pub mod Lists
+pub mod Logs
+pub mod Telling
+pub mod Effects
+pub mod Stores
+pub mod Going
+pub mod Sealing
+pub mod Forgetting
+pub mod Standing
+pub mod Traces
+pub mod Applying
+pub mod Beginning
+pub mod Rows

@@ -1,0 +1,9 @@
+pub mod Kept
+pub mod Logs
+pub mod Making
+pub mod Values
+pub mod Views
+pub mod Tells
+pub mod Rows
+pub mod Stands
+pub mod Storing

@@ -1,0 +1,20 @@
+//! The board of a storage server: the versions that it can read, over its durable base, and the trace of what it did.
+#![tactic(auto)]
+
+mod board;
+mod laws;
+mod opening;
+mod refusal;
+mod storing;
+mod story;
+#[cfg(test)]
+mod tests;
+mod versions;
+mod view;
+
+pub use board::Board;
+pub use laws::durable_versions_are_forgotten;
+pub use opening::Opening;
+pub use refusal::{ApplyRefusal, ViewRefusal};
+pub use story::Story;
+pub use view::View;

@@ -282,6 +282,26 @@ fn forget<L: Ledger>(rt: &impl Abort, alloc: Global, blank: Blank) -> Result<(),
     Ok(())
 }
 
+#[test]
+fn a_version_is_read_by_the_newest_root_below_it(rt: HostRuntime) -> Result<(), Fail> {
+    let alloc = rt.alloc();
+    let mut window = three_versions(alloc)?;
+    add_version(&mut window, alloc, 7, &[])?;
+    window.forget_before(2);
+    let rows = [
+        (1, None),
+        (2, Some(2)),
+        (3, Some(3)),
+        (6, Some(3)),
+        (7, Some(7)),
+        (9, Some(7)),
+    ];
+    for (version, kept) in rows {
+        assert_eq!(rt; window.kept_at(version), kept);
+    }
+    Ok(())
+}
+
 // Whether the mutations up to a version are of these versions.
 fn are_made(
     rt: &impl Abort,

@@ -213,6 +213,14 @@ impl Window {
         last
     }
 
+    /// The version of the root that a version is read by: the newest that is kept at it or below it.
+    pub fn kept_at(&self, version: u64) -> Option<u64>
+        ensures { result ≡ option_map (λ kept. kept.version) (last_to version self.now.roots) }
+    {
+        let kept = self.last_to(version)?;
+        Some(kept.version)
+    }
+
     /// The root of a version: of the newest one that is kept at it or below it. None exactly below the forgotten version or
     /// above the newest.
     pub fn root_at(&self, version: u64) -> Result<Option<Root>, AllocError>

@@ -1,14 +1,14 @@
 -- A batch more on a board.
-use Rattle.std.proofs.Common.{◌≡◌, ◌∙◌, ◌<◌, ◌++◌, ◌==◌, ℕ, Bool, true, false, cond, nat_lt, nat_le, leb-false, List, [], ◌∷◌, map, fold, Option, Some, None, refl, sym, ap, subst, arith}
+use Rattle.std.proofs.Common.{◌≡◌, ◌∙◌, ◌≤◌, ◌<◌, ◌++◌, ℕ, Bool, true, false, cond, nat_lt, nat_le, leb-false, List, [], ◌∷◌, map, fold, Option, Some, None, refl, sym, ap, subst, arith}
 use Rattle.std.specs.List.{AllByRecursion, find, list_any}
 use Rattle.st_model.specs.Trace.{is_end, state_after}
-use Rattle.std.proofs.lemmas.Bool.Decides.{nat_tests}
+use Rattle.std.proofs.lemmas.List.{append-nil, map-append}
 use Rattle.std.proofs.lemmas.Option.{same_Some}
 use Rattle.st_fold.specs.Map.{batches_to}
 use Rattle.st_fold.specs.Plain.{Rises}
 use Rattle.st_fold.specs.declared.report.Event.{Event}
 use Rattle.st_fold.specs.declared.report.Event.TheVariants.{Applied}
-use Rattle.st_key.specs.Spans.{Span, within}
+use Rattle.st_key.specs.Spans.{Span, all_keys, within}
 use Rattle.st_model.specs.Pieces.{inject, move_piece}
 use Rattle.st_model.specs.State.{Given, Opening, State, after_batch, apply_next, next_batch, step}
 use Rattle.st_model.specs.declared.piece.Piece.{Piece}
@@ -17,16 +17,21 @@ use Rattle.st_mutation.specs.Effect.{value_by}
 use Rattle.st_mutation.specs.declared.batch.Batch.{Batch}
 use Rattle.st_mutation.specs.declared.batch.Move.{Move}
 use Rattle.st_mutation.specs.declared.batch.Mutation.{Mutation}
-use Rattle.st_versioned.specs.Root.{decided, decision_above}
+use Rattle.st_versioned.specs.Root.{decided, decision_above, value_at}
 use Rattle.st_versioned.specs.Window.{Stands, Versions, begun, is_dated, made_above, sealed}
 use Rattle.st_versioned.specs.declared.change.Dated.{Dated}
+use Rattle.st_board.specs.Jobs.{Among, Store, batches_between, durable_ops, sent_of, value_behind}
 use Rattle.st_board.specs.Kept.{KeepsVersions}
 use Rattle.st_board.specs.Logs.{HasShortKey}
 use Rattle.st_board.specs.Stands.{Keeps, Standing, all_served}
 use Rattle.st_board.specs.Storing.{all_stored}
-use Rattle.st_board.proofs.Lists.{all-filter}
+use Rattle.st_board.specs.Values.{value_of}
+use Rattle.st_board.proofs.Between.{among-more, between-next, versions_of}
+use Rattle.st_board.proofs.Jobs.{durable-more}
+use Rattle.st_board.proofs.Lists.{all-filter, same-number}
 use Rattle.st_board.proofs.Logs.{IsNext, is-next, next_above, none_to}
-use Rattle.st_board.proofs.Sealing.{kept-applied}
+use Rattle.st_board.proofs.Sealing.{adds, kept-applied, making-first, sealed-is, sealed-mutations}
+use Rattle.st_board.proofs.Sending.{sent-all, sent-next}
 use Rattle.st_board.proofs.Traces.{goes-on-more, legal-more}
 
 -- what is found in a list is one of it
@@ -53,10 +58,7 @@ next-of-log (first ∷ log) from upto newest batch rises is = by_test (nat_le fi
         by_next true here = here
         by_next false here = later here
 
-same_number : (n : ℕ) → (n == n) ≡ true
-same_number n = grind (arith, nat_tests)
-
-module _ (given : Given) (opening : Opening) (board : Standing) (keeps : Keeps given opening board) (batch : Batch) (is : next_batch given board.state ≡ Some batch) where
+module _ (given : Given) (opening : Opening) (store : Store) (board : Standing) (keeps : Keeps given opening store board) (batch : Batch) (is : next_batch given board.state ≡ Some batch) where
   pub next-is : IsNext given.log board.state.newest batch
   next-is = is-next given.log 0 board.state.newest batch keeps.still.rises (next-of-log given.log 0 given.upto board.state.newest batch keeps.still.rises is)
 
@@ -82,14 +84,14 @@ module _ (given : Given) (opening : Opening) (board : Standing) (keeps : Keeps g
   stepped : step given board.state (Applied batch.version) ≡ Some Next
   stepped =
       ap (apply_next board.state batch.version) is
-      ∙ ap (λ (t : Bool). cond t (Some (after_batch board.state batch)) None) (same_number batch.version)
+      ∙ ap (λ (t : Bool). cond t (Some (after_batch board.state batch)) None) (same-number batch.version)
       ∙ ap Some is_after
 
   pub keeps-applied : ((version last : ℕ) (r : List Dated) (key : List ℕ) → is_dated last r ≡ true → decided (made_above version r) key ≡ decision_above version (decided r key))
       → ((mutation : Mutation) (to : Span) (key : List ℕ) (before : Option (List ℕ)) → within to key ≡ true → value_by_part key before (clipped mutation to) ≡ value_by key before mutation)
       → (window : Versions) → window ≡ sealed (all_stored board.base board.state.pieces (begun batch.version board.window) batch.mutations) → Stands window
       → (trace : List Event) → trace ≡ board.trace ++ Applied batch.version ∷ []
-      → Keeps given opening (record { trace = trace; state = Next; window = window; base = board.base })
+      → Keeps given opening store (record { trace = trace; state = Next; window = window; base = board.base })
   keeps-applied decided_above clip_inside window made stands trace more = record {
     still = keeps.still;
     legal = ap (state_after given opening) more ∙ legal-more given opening board.trace (Applied batch.version) board.state Next keeps.legal keeps.going_on stepped;
@@ -97,10 +99,51 @@ module _ (given : Given) (opening : Opening) (board : Standing) (keeps : Keeps g
     oldest = keeps.oldest;
     pieces = keeps.pieces;
     available = keeps.available;
+    flight = λ flight in_flight.
+        let was = keeps.flight flight in_flight in
+        record {
+          above = was.above;
+          read = let low = was.read in let lt = next-is.above in omega arith;
+          there = subst (Among flight.version) (ap (λ l. durable ∷ l) (sym versions_next)) (among-more flight.version (durable ∷ versions_of given.log durable newest) (batch.version ∷ []) was.there);
+          available = was.available;
+        };
     versions =
-        subst (λ w. KeepsVersions given.log board.state.durable batch.version w board.base) (sym one)
-        (kept-applied given.log board.state.durable board.state.newest board.window board.base keeps.versions batch next-is decided_above clip_inside (subst Stands one stands));
+        subst (λ w. KeepsVersions given.log durable batch.version w board.base) (sym one)
+        (kept-applied given.log durable newest board.window board.base keeps.versions batch next-is decided_above clip_inside (subst Stands one stands));
+    roots =
+        ap (λ (w : Versions). map (λ kept. kept.version) w.roots) (one ∙ sealed-is batch.version board.window After (adds given.log durable newest board.window board.base keeps.versions batch next-is decided_above clip_inside))
+        ∙ map-append (λ kept. kept.version) board.window.roots _
+        ∙ ap (λ l. l ++ batch.version ∷ []) keeps.roots
+        ∙ ap (λ l. durable ∷ l) (sym versions_next);
+    sent =
+        ap (λ (w : Versions). w.mutations) one
+        ∙ sealed-mutations After
+        ∙ sent-all given.log board.base durable newest batch.version next-is.above keeps.versions.base_is (λ mutation key now users. clip_inside mutation all_keys key now users)
+        (begun batch.version board.window) (value_of given.log newest) batch.mutations
+        (making-first given.log durable newest board.window board.base keeps.versions batch next-is decided_above clip_inside)
+        ∙ ap (λ l. l ++ map (λ m. (batch.version, m)) (sent_of all_served (value_of given.log newest) batch.mutations)) keeps.sent
+        ∙ sym (sent-next given.log durable newest batch next-is order);
+    committed = λ key users.
+        keeps.committed key users
+        ∙ ap (value_behind key (value_at store.pairs key)) (sym (ap (durable_ops given opening store) more ∙ durable-more given opening store board.trace (Applied batch.version) board.state keeps.legal keeps.going_on ∙ append-nil (durable_ops given opening store board.trace)));
   }
     where
-      one : window ≡ sealed (all_stored board.base all_served (begun batch.version board.window) batch.mutations)
+      durable : ℕ
+      durable = board.state.durable
+
+      newest : ℕ
+      newest = board.state.newest
+
+      After : Versions
+      After = all_stored board.base all_served (begun batch.version board.window) batch.mutations
+
+      one : window ≡ sealed After
       one = made ∙ ap (λ pieces. sealed (all_stored board.base pieces (begun batch.version board.window) batch.mutations)) keeps.pieces
+
+      order : board.state.durable ≤ board.state.newest
+      order = let a = keeps.versions.stands.order in let b = keeps.versions.forgotten_is in let c = keeps.versions.newest_is in omega arith
+
+      versions_next : versions_of given.log durable batch.version ≡ versions_of given.log durable newest ++ batch.version ∷ []
+      versions_next =
+          ap (map (λ b. b.version)) (between-next given.log durable newest batch next-is order)
+          ∙ map-append (λ b. b.version) (batches_between given.log durable newest) (batch ∷ [])

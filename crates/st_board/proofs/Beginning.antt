@@ -1,7 +1,6 @@
 -- A board that opens.
-use Rattle.std.proofs.Common.{◌≡◌, ◌∙◌, ◌==◌, ℕ, Bool, true, cond, nat_le, List, [], ◌∷◌, fold, Some, None, refl, sym, ap, subst, arith}
-use Rattle.std.specs.List.{AllByRecursion, list_any}
-use Rattle.std.proofs.lemmas.Bool.Decides.{nat_tests}
+use Rattle.std.proofs.Common.{◌≡◌, ◌∙◌, ℕ, Bool, cond, nat_le, List, [], ◌∷◌, fold, map, Some, None, refl, sym, ap, subst}
+use Rattle.std.specs.List.{AllByRecursion, flat_map, list_any}
 use Rattle.st_fold.specs.Map.{Map, batches_to}
 use Rattle.st_fold.specs.declared.report.Event.{Event}
 use Rattle.st_fold.specs.declared.report.Event.TheVariants.{Opened}
@@ -14,11 +13,13 @@ use Rattle.st_mutation.specs.declared.batch.Batch.{Batch}
 use Rattle.st_mutation.specs.declared.batch.Move.{Move}
 use Rattle.st_versioned.specs.Root.{value_at}
 use Rattle.st_versioned.specs.Window.{Stands, Versions}
+use Rattle.st_board.specs.Jobs.{Store, durable_ops, sent_in, value_behind}
 use Rattle.st_board.specs.Kept.{IsUsers, KeepsVersions}
 use Rattle.st_board.specs.Stands.{IsStill, Keeps, all_served}
 use Rattle.st_board.specs.Values.{value_of}
+use Rattle.st_board.proofs.Between.{between-none}
 use Rattle.st_board.proofs.Forgetting.{first_window, kept-first}
-use Rattle.st_board.proofs.Lists.{all-filter}
+use Rattle.st_board.proofs.Lists.{all-filter, same-number}
 
 -- a log that moves nothing leaves what is assigned
 still-assigned : (spans : List Span) (batches : List Batch) → AllByRecursion (λ batch. batch.moves ≡ []) batches → fold (λ s batch. fold move_span s batch.moves) spans batches ≡ spans
@@ -27,11 +28,8 @@ still-assigned spans (batch ∷ batches) none =
     ap (λ (moves : List Move). fold (λ s b. fold move_span s b.moves) (fold move_span spans moves) batches) none.0
     ∙ still-assigned spans batches none.1
 
-same_number : (n : ℕ) → (n == n) ≡ true
-same_number n = grind (arith, nat_tests)
-
 module _ (given : Given) (opening : Opening) (still : IsStill given opening) where
-  all-assigned : (version : ℕ) → assigned given.own given.log version ≡ all_keys ∷ []
+  pub all-assigned : (version : ℕ) → assigned given.own given.log version ≡ all_keys ∷ []
   all-assigned version =
       still-assigned given.own (batches_to version given.log) (all-filter (λ batch. batch.moves ≡ []) (λ batch. nat_le batch.version version) given.log still.no_moves)
       ∙ still.own
@@ -40,26 +38,36 @@ module _ (given : Given) (opening : Opening) (still : IsStill given opening) whe
   pub one-piece : first_pieces opening.version opening.available (assigned given.own given.log opening.version) ≡ all_served
   one-piece = λ i. first_pieces opening.version (still.available i) (all-assigned opening.version i)
 
-  pub keeps-first : (base : Map) (pieces : List Piece) (trace : List Event) (window : Versions) → trace ≡ Opened opening.version ∷ []
+  pub keeps-first : (store : Store) (base : Map) (pieces : List Piece) (trace : List Event) (window : Versions) → trace ≡ Opened opening.version ∷ []
       → pieces ≡ first_pieces opening.version opening.available (assigned given.own given.log opening.version) → window ≡ first_window opening.version → Stands window
-      → ((key : List ℕ) → IsUsers key → value_at base key ≡ value_of given.log opening.version key)
-      → Keeps given opening (record {
+      → ((key : List ℕ) → IsUsers key → value_at base key ≡ value_of given.log opening.version key) → store.pairs ≡ base
+      → Keeps given opening store (record {
         trace = trace;
         state = record { newest = opening.version; oldest = opening.version; durable = opening.version; available = opening.available; flight = None; pieces = pieces; watches = [] };
         window = window;
         base = base;
       })
-  keeps-first base pieces trace window traced cut made stands based = record {
+  keeps-first store base pieces trace window traced parted made stands based stored = record {
     still = still;
     legal =
         ap (state_after given opening) traced
-        ∙ ap (λ (t : Bool). cond t (Some (first_state given opening)) None) (same_number opening.version)
-        ∙ ap (λ (p : List Piece). Some (record (first_state given opening) { pieces = p })) (sym cut);
+        ∙ ap (λ (t : Bool). cond t (Some (first_state given opening)) None) (same-number opening.version)
+        ∙ ap (λ (p : List Piece). Some (record (first_state given opening) { pieces = p })) (sym parted);
     going_on = ap (list_any is_end) traced;
     oldest = refl;
-    pieces = cut ∙ one-piece;
+    pieces = parted ∙ one-piece;
     available = still.available;
+    flight = λ flight in_flight. absurd (cc (in_flight));
     versions =
         subst (λ w. KeepsVersions given.log opening.version opening.version w base) (sym made)
         (kept-first given.log opening.version base based (subst Stands made stands));
+    roots =
+        ap (λ (w : Versions). map (λ kept. kept.version) w.roots) made
+        ∙ ap (λ batches. opening.version ∷ map (λ batch. batch.version) batches) (sym (between-none given.log opening.version));
+    sent =
+        ap (λ (w : Versions). w.mutations) made
+        ∙ ap (flat_map (sent_in given.log all_served)) (sym (between-none given.log opening.version));
+    committed = λ key users.
+        ap (λ (m : Map). value_at m key) (sym stored)
+        ∙ ap (λ t. value_behind key (value_at store.pairs key) (durable_ops given opening store t)) (sym traced);
   }

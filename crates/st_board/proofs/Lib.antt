@@ -4,10 +4,16 @@ pub mod Telling
 pub mod Effects
 pub mod Stores
 pub mod Going
+pub mod Between
+pub mod Sending
 pub mod Sealing
 pub mod Forgetting
-pub mod Standing
 pub mod Traces
+pub mod Changes
+pub mod Jobs
 pub mod Applying
 pub mod Beginning
+pub mod Commits
+pub mod Standing
+pub mod Room
 pub mod Rows

@@ -1,5 +1,6 @@
 -- Lists of versions.
-use Rattle.std.proofs.Common.{◌≡◌, ◌∙◌, ◌++◌, ◌-◌, suc, Bool, true, false, cond, List, [], ◌∷◌, length, filter, Option, Some, None, refl, ap, subst, arith}
+use Rattle.std.proofs.Common.{◌≡◌, ◌∙◌, ◌++◌, ◌-◌, ◌==◌, ℕ, suc, Bool, true, false, cond, List, [], ◌∷◌, length, filter, Option, Some, None, refl, ap, subst, arith}
+use Rattle.std.proofs.lemmas.Bool.Decides.{nat_tests}
 use Rattle.std.specs.List.{AllByRecursion, slice_get}
 use Rattle.std.specs.Option.{option_or}
 use Rattle.st_ptree.specs.Entries.{last_of}
@@ -69,3 +70,6 @@ module _ {X : Type 0} where
       by_last : (o : Option X) → last_of xs ≡ o → option_or o (Some y) ≡ Some x → (last_of xs ≡ Some x → P x) → P x
       by_last None none is rest = let one : y ≡ x = cc (is) in subst P one all.0
       by_last (Some z) some is rest = rest (some ∙ is)
+
+pub same-number : (n : ℕ) → (n == n) ≡ true
+same-number n = grind (arith, nat_tests)

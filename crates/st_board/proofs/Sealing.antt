@@ -124,6 +124,14 @@ sealed-is version before after adds =
       mutations = adds.made i;
     })
 
+-- sealing leaves the mutations
+pub sealed-mutations : (window : Versions) → (sealed window).mutations ≡ window.mutations
+sealed-mutations window = by_making window.making
+  where
+    by_making : (o : Option Kept) → (option_map_or (λ kept. record window { newest = kept.version; roots = window.roots ++ kept ∷ []; making = None }) o window).mutations ≡ window.mutations
+    by_making None = refl
+    by_making (Some kept) = refl
+
 last_to-more : (version : ℕ) (roots : List Kept) (kept : Kept) → last_to version (roots ++ kept ∷ []) ≡ last_of (filter (λ k. nat_le k.version version) roots ++ cond (nat_le kept.version version) (kept ∷ []) [])
 last_to-more version roots kept = ap last_of (filter-append (λ k. nat_le k.version version) roots (kept ∷ []))
 
@@ -287,7 +295,7 @@ module _ (log : List Batch) (durable newest : ℕ) (window : Versions) (base : P
           ∙ sym (decided_above window.forgotten kept.version kept.root key (all-last (λ k. is_dated k.version k.root ≡ true) window.roots kept keeps.stands.dated is)))
           (tells-above log key durable newest (decided kept.root key) told then_order)
 
-  making-first : (key : List ℕ) → IsUsers key → Making log base durable newest batch.version (begun batch.version window) key (value_of log newest key)
+  pub making-first : (key : List ℕ) → IsUsers key → Making log base durable newest batch.version (begun batch.version window) key (value_of log newest key)
   making-first key users = record {
     root = made_above window.forgotten (newest_root window);
     is = refl;
@@ -298,7 +306,7 @@ module _ (log : List Batch) (durable newest : ℕ) (window : Versions) (base : P
   abbrev After : Versions
   After = all_stored base all_served (begun batch.version window) batch.mutations
 
-  adds : Adds batch.version window After
+  pub adds : Adds batch.version window After
   adds = adds-all base batch.version window (begun batch.version window) batch.mutations (adds-none window batch.version)
 
   making : (key : List ℕ) → IsUsers key → Making log base durable newest batch.version After key (value_of log batch.version key)

@@ -93,6 +93,12 @@ module _ (log : List Batch) (base : Pairs) (durable newest version : ℕ) (key :
   leads-noted (Some (Clear span)) now = refl
   leads-noted (Some (Atomic op other operand)) now = refl
 
+  -- what the root in the making says of the key is its value now
+  pub value-now : (window : Versions) (now : Option (List ℕ)) → Making log base durable newest version window key now → over (making_root window) base key ≡ now
+  value-now window now making =
+      ap (λ (m : Option Kept). over (option_map_or (λ kept. kept.root) m []) base key) making.is
+      ∙ makes-value log key durable newest version (value_at base key) now (decided making.root key) has making.makes
+
   -- the window behind one mutation
   pub making-stored : (window : Versions) (now : Option (List ℕ)) (mutation : Mutation) → Making log base durable newest version window key now
       → Making log base durable newest version (stored_in base window mutation) key (value_by key now mutation)
@@ -115,13 +121,8 @@ module _ (log : List Batch) (base : Pairs) (durable newest version : ℕ) (key :
       stored : Option Mutation
       stored = stored_as mutation before
 
-      is_now : before key ≡ now
-      is_now =
-          ap (λ (m : Option Kept). over (option_map_or (λ kept. kept.root) m []) base key) making.is
-          ∙ makes-value log key durable newest version (value_at base key) now (decided making.root key) has making.makes
-
       effect : stored_value key now stored ≡ value_by key now mutation
-      effect = stored-effect key now mutation before is_now
+      effect = stored-effect key now mutation before (value-now window now making)
 
   module _ (inside : (mutation : Mutation) (now : Option (List ℕ)) → value_by_part key now (clipped mutation all_keys) ≡ value_by key now mutation) where
     -- the window behind one mutation, where all keys are served

@@ -1,5 +1,5 @@
 -- An event more in a legal trace.
-use Rattle.std.proofs.Common.{◌≡◌, ◌∙◌, ◌++◌, ◌&&◌, ◌||◌, ◌==◌, Bool, true, false, cond, nat_lt, List, [], ◌∷◌, length, Option, Some, None, option_and_then, refl, sym, ap}
+use Rattle.std.proofs.Common.{◌≡◌, ◌∙◌, ◌++◌, ◌&&◌, ◌||◌, ◌==◌, ℕ, Bool, true, false, cond, nat_lt, List, [], ◌∷◌, length, Option, Some, None, option_and_then, refl, sym, ap, subst}
 use Rattle.std.specs.List.{list_any}
 use Rattle.std.proofs.lemmas.Bool.{false≢true}
 use Rattle.std.proofs.lemmas.Option.{same_Some}
@@ -8,7 +8,7 @@ use Rattle.st_fold.specs.declared.report.Event.TheVariants.{Opened, Applied, Fet
 use Rattle.st_model.specs.State.{Given, Opening, State, first_state, step}
 use Rattle.st_model.specs.Trace.{is_end, run_events, state_after}
 
-or_false : (a b : Bool) → (a || b) ≡ false → (a ≡ false) × (b ≡ false)
+pub or_false : (a b : Bool) → (a || b) ≡ false → (a ≡ false) × (b ≡ false)
 or_false true b is = absurd (false≢true (sym is))
 or_false false b is = (refl, is)
 
@@ -37,27 +37,43 @@ run-more given event last next is (e ∷ events) state going run =
     by_step None ran more = absurd (cc (ran))
     by_step (Some s) ran more = more s ran
 
+-- a legal trace opens at the opening's version, and its other events run from the state there
+pub record IsOpened (given : Given) (opening : Opening) (trace : List Event) (last : State) : Type 0 where
+  pub version : ℕ
+  pub events : List Event
+  pub is : trace ≡ Opened version ∷ events
+  pub at : (version == opening.version) ≡ true
+  pub run : run_events given (first_state given opening) events ≡ Some last
+
+pub opened : (given : Given) (opening : Opening) (trace : List Event) (last : State) → state_after given opening trace ≡ Some last → IsOpened given opening trace last
+opened given opening [] last legal = absurd (cc (legal))
+opened given opening (Opened version ∷ events) last legal = by_test (version == opening.version) refl
+  where
+    as_tested : (t : Bool) → (version == opening.version) ≡ t → cond t (run_events given (first_state given opening) events) None ≡ Some last
+    as_tested t is = sym (ap (λ (t : Bool). cond t (run_events given (first_state given opening) events) None) is) ∙ legal
+
+    by_test : (t : Bool) → (version == opening.version) ≡ t → IsOpened given opening (Opened version ∷ events) last
+    by_test true here = record { version = version; events = events; is = refl; at = here; run = as_tested true here }
+    by_test false here = absurd (cc (as_tested false here))
+opened given opening (Applied version ∷ events) last legal = absurd (cc (legal))
+opened given opening (FetchStart begin at ∷ events) last legal = absurd (cc (legal))
+opened given opening (Block begin upto ∷ events) last legal = absurd (cc (legal))
+opened given opening (Split begin key ∷ events) last legal = absurd (cc (legal))
+opened given opening (Began version ∷ events) last legal = absurd (cc (legal))
+opened given opening (Durable version ∷ events) last legal = absurd (cc (legal))
+opened given opening (Watched number key value ∷ events) last legal = absurd (cc (legal))
+opened given opening (Unwatched number ∷ events) last legal = absurd (cc (legal))
+opened given opening (Closed ∷ events) last legal = absurd (cc (legal))
+opened given opening (Killed ∷ events) last legal = absurd (cc (legal))
+
 -- the trace with one event more leads to the state behind it
 pub legal-more : (given : Given) (opening : Opening) (trace : List Event) (event : Event) (last next : State) → state_after given opening trace ≡ Some last → list_any is_end trace ≡ false → step given last event ≡ Some next
     → state_after given opening (trace ++ event ∷ []) ≡ Some next
-legal-more given opening [] event last next legal going is = absurd (cc (legal))
-legal-more given opening (Opened version ∷ events) event last next legal going is = by_test (version == opening.version) refl
-  where
-    by_test : (t : Bool) → (version == opening.version) ≡ t → cond t (run_events given (first_state given opening) (events ++ event ∷ [])) None ≡ Some next
-    by_test true here =
-        run-more given event last next is events (first_state given opening) going
-        (sym (ap (λ (t : Bool). cond t (run_events given (first_state given opening) events) None) here) ∙ legal)
-    by_test false here = absurd (cc (sym (ap (λ (t : Bool). cond t (run_events given (first_state given opening) events) None) here) ∙ legal))
-legal-more given opening (Applied version ∷ events) event last next legal going is = absurd (cc (legal))
-legal-more given opening (FetchStart begin at ∷ events) event last next legal going is = absurd (cc (legal))
-legal-more given opening (Block begin upto ∷ events) event last next legal going is = absurd (cc (legal))
-legal-more given opening (Split begin key ∷ events) event last next legal going is = absurd (cc (legal))
-legal-more given opening (Began version ∷ events) event last next legal going is = absurd (cc (legal))
-legal-more given opening (Durable version ∷ events) event last next legal going is = absurd (cc (legal))
-legal-more given opening (Watched number key value ∷ events) event last next legal going is = absurd (cc (legal))
-legal-more given opening (Unwatched number ∷ events) event last next legal going is = absurd (cc (legal))
-legal-more given opening (Closed ∷ events) event last next legal going is = absurd (cc (legal))
-legal-more given opening (Killed ∷ events) event last next legal going is = absurd (cc (legal))
+legal-more given opening trace event last next legal going is =
+    let o = opened given opening trace last legal in
+    ap (λ t. state_after given opening (t ++ event ∷ [])) o.is
+    ∙ ap (λ (t : Bool). cond t (run_events given (first_state given opening) (o.events ++ event ∷ [])) None) o.at
+    ∙ run-more given event last next is o.events (first_state given opening) (subst (λ t. list_any is_end t ≡ false) o.is going) o.run
 
 pub goes-on-more : (trace : List Event) (event : Event) → list_any is_end trace ≡ false → is_end event ≡ false → list_any is_end (trace ++ event ∷ []) ≡ false
 goes-on-more [] event going is = ap (λ t. t || false) is

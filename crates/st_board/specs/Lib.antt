@@ -1,3 +1,4 @@
+pub mod Jobs
 pub mod Kept
 pub mod Logs
 pub mod Making

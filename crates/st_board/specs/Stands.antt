@@ -1,6 +1,7 @@
 -- What a board stands for, where it serves all keys and its log moves nothing.
-use Rattle.std.specs.Prelude.{◌≡◌, ℕ, ◌≤◌, ◌<◌, false, List, [], ◌∷◌, Some, IfSome}
+use Rattle.std.specs.Prelude.{◌≡◌, ℕ, ◌≤◌, ◌<◌, false, List, [], ◌∷◌, map, Option, Some, None, IfSome}
 use Rattle.std.specs.List.{AllByRecursion, list_any}
+use Rattle.std.specs.Option.{ForSome, option_map}
 use Rattle.st_fold.specs.Map.{Map}
 use Rattle.st_fold.specs.Plain.{Rises}
 use Rattle.st_fold.specs.declared.report.Ending.{Ending}
@@ -8,12 +9,14 @@ use Rattle.st_fold.specs.declared.report.Ending.TheVariants.{Closed, Killed, Fau
 use Rattle.st_fold.specs.declared.report.Event.{Event}
 use Rattle.st_fold.specs.declared.report.Event.TheVariants as event
 use Rattle.st_key.specs.Spans.{all_keys}
+use Rattle.st_meta.specs.declared.state.Meta.{Meta}
 use Rattle.st_model.specs.State.{Given, Opening, State}
-use Rattle.st_model.specs.declared.piece.Phase.TheVariants.{Readable}
-use Rattle.st_model.specs.declared.piece.Piece.{Piece}
 use Rattle.st_model.specs.Trace.{is_end, state_after}
+use Rattle.st_model.specs.declared.piece.Piece.{Piece}
 use Rattle.st_versioned.specs.Root.{over, value_at}
 use Rattle.st_versioned.specs.Window.{Versions, root_of}
+pub use Rattle.st_board.specs.Jobs.{all_served}
+use Rattle.st_board.specs.Jobs.{Among, Store, batches_between, clears_left, durable_ops, job_of, sent_between, value_behind}
 use Rattle.st_board.specs.Kept.{IsUsers, KeepsVersions}
 use Rattle.st_board.specs.Logs.{HasShortKey}
 use Rattle.st_board.specs.Values.{value_of}
@@ -25,6 +28,32 @@ pub record Standing : Type 0 where
   pub window : Versions
   pub base : Map
 
+-- the commit that this will be stored of
+abbrev pub flight_of : Meta → Opening
+flight_of next = record { version = next.version; available = next.available }
+
+-- the board of these parts: what its base is stored with, and what it will be stored with
+abbrev pub board_of : List Event → (newest : ℕ) → (durable : Meta) → (next : Option Meta) → List Piece → Versions → Map → Standing
+board_of trace newest durable next pieces window base = record {
+  trace = trace;
+  state = record {
+    newest = newest;
+    oldest = durable.version;
+    durable = durable.version;
+    available = durable.available;
+    flight = option_map flight_of next;
+    pieces = pieces;
+    watches = [];
+  };
+  window = window;
+  base = base;
+}
+
+-- the events for which there is always room: the end of the flight, and the life's last
+abbrev pub still_to_come : Option Meta → ℕ
+still_to_come None = 1
+still_to_come (Some next) = 2
+
 -- the log of a server that owns all keys, and moves none
 pub record IsStill (given : Given) (opening : Opening) : Type 0 where
   pub own : given.own ≡ all_keys ∷ []
@@ -33,22 +62,37 @@ pub record IsStill (given : Given) (opening : Opening) : Type 0 where
   pub no_moves : AllByRecursion (λ batch. batch.moves ≡ []) given.log
   pub short : AllByRecursion (λ batch. AllByRecursion HasShortKey batch.mutations) given.log
 
--- all keys in one piece that is served
-abbrev pub all_served : List Piece
-all_served = record { begin = []; end = 255 ∷ []; phase = Readable } ∷ []
+-- a commit in flight, of all keys, at the durable version or that of a batch above it
+pub record IsFlight (given : Given) (state : State) (flight : Opening) : Type 0 where
+  pub above : state.durable ≤ flight.version
+  pub read : flight.version ≤ state.newest
+  pub there : Among flight.version (state.durable ∷ map (λ batch. batch.version) (batches_between given.log state.durable state.newest))
+  pub available : flight.available ≡ all_keys ∷ []
+
+-- the base has the pairs of the opening's store, changed by the jobs of the durable commits
+abbrev pub IsCommitted : Given → Opening → Store → Standing → Type 0
+IsCommitted given opening store board =
+    (key : List ℕ) → IsUsers key → value_at board.base key ≡ value_behind key (value_at store.pairs key) (durable_ops given opening store board.trace)
 
 -- what a board keeps of itself
-pub record Keeps (given : Given) (opening : Opening) (board : Standing) : Type 0 where
+pub record Keeps (given : Given) (opening : Opening) (store : Store) (board : Standing) : Type 0 where
   pub still : IsStill given opening
   pub legal : state_after given opening board.trace ≡ Some board.state
   pub going_on : list_any is_end board.trace ≡ false
   pub oldest : board.state.oldest ≡ board.state.durable
   pub pieces : board.state.pieces ≡ all_served
   pub available : board.state.available ≡ all_keys ∷ []
+  pub flight : ForSome board.state.flight (IsFlight given board.state)
   pub versions : KeepsVersions given.log board.state.durable board.state.newest board.window board.base
+  -- the window has a root of each batch above the durable version, and of that version
+  pub roots : map (λ kept. kept.version) board.window.roots
+      ≡ board.state.durable ∷ map (λ batch. batch.version) (batches_between given.log board.state.durable board.state.newest)
+  -- its mutations are what was sent of these batches
+  pub sent : board.window.mutations ≡ sent_between given.log all_served board.state.durable board.state.newest
+  pub committed : IsCommitted given opening store board
 
 -- the board stands for its log and its trace
-pub record StandsFor (given : Given) (opening : Opening) (board : Standing) : Type 0 where
+pub record StandsFor (given : Given) (opening : Opening) (store : Store) (board : Standing) : Type 0 where
   -- the trace is legal, and leads to the board's state
   pub legal : state_after given opening board.trace ≡ Some board.state
   pub going_on : list_any is_end board.trace ≡ false
@@ -59,6 +103,11 @@ pub record StandsFor (given : Given) (opening : Opening) (board : Standing) : Ty
   pub base_is : (key : List ℕ) → IsUsers key → value_at board.base key ≡ value_of given.log board.state.durable key
   -- the changes that are kept are above it
   pub above : AllByRecursion (λ made. board.state.durable < made.0) board.window.mutations
+  -- behind the job in flight the base is that of the job's version
+  pub flight : ForSome (job_of given (clears_left opening store board.trace) board.state)
+      (λ job. (key : List ℕ) → IsUsers key → value_behind key (value_at board.base key) job.ops ≡ value_of given.log job.version key)
+  -- the base has the pairs of the opening's store, changed by the jobs of the durable commits
+  pub committed : IsCommitted given opening store board
 
 -- the last event of a trace by how its life ended
 abbrev pub last_event : Ending → List Event

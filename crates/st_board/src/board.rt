@@ -1,14 +1,17 @@
 //! The board.
-ghost use Rattle.std.specs.Prelude.{◌≡◌, ◌≤◌, ◌<◌, ◌∷◌, ◌++◌, [], ℕ, List, None, Some, OnOk, OnErr, IfOk, IfErr, length};
+ghost use Rattle.std.specs.Prelude.{◌≡◌, ◌≤◌, ◌<◌, ◌∷◌, ◌++◌, [], ℕ, List, None, Some, OnOk, OnErr, IfOk, IfErr, IfSome, IsTrue, is_some, length};
 ghost use Rattle.st_fold.specs.declared.report.Event.TheVariants as event;
 ghost use Rattle.st_ptree.specs.Entries.{pairs_of};
 
+use crate::committing::{has_rows, ops_of};
 use crate::versions::put_next;
-use crate::{ApplyRefusal, Opening, Story, View, ViewRefusal};
+use crate::{ApplyRefusal, CommitJob, Opening, Story, View, ViewRefusal};
 use bytes::Bytes;
 use st_fold::{Ending, Event, Settings};
 use st_gate::{Judged, judge};
-use st_key::{Range, Ranges};
+use st_key::Range;
+use st_list::Items;
+use st_meta::Meta;
 use st_mutation::{Batch, clip_is_the_part_inside};
 use st_ptree::PTree;
 use st_shards::ShardMap;
@@ -23,66 +26,51 @@ pub struct Board<N: Story> {
     alloc: Global,
     settings: Settings,
     newest: u64,
-    durable: u64,
+    // what the base is stored with
+    durable: Meta,
+    // and what it will be stored with once the commit in flight is durable
+    flight: Option<Meta>,
+    // what the first commit of the life clears
+    clears: Vec<Range>,
     window: Window,
     base: PTree<Bytes>,
     shards: ShardMap,
-    available: Ranges,
-    // there is room for the last event
+    // there is room for the end of the flight and for the last event
     trace: Vec<Event>,
     story: PhantomData<N>,
 }
 
 impl<N: Story> Model for Board<N> {
-    ghost use Rattle.std.specs.Prelude.{◌≡◌, ◌<◌, [], None, vec_len, vec_capacity};
+    ghost use Rattle.std.specs.Prelude.{◌≡◌, ◌+◌, ◌≤◌, vec_len, vec_capacity};
+    ghost use Rattle.std.specs.Option.{ForSome};
+    ghost use Rattle.st_model.specs.State.{assigned};
     ghost use Rattle.st_ptree.specs.Entries.{pairs_of};
-    ghost use Rattle.st_board.specs.Stands.{Keeps, Standing};
+    ghost use Rattle.st_board.specs.Jobs.{clears_left};
+    ghost use Rattle.st_board.specs.Stands.{Keeps, Standing, board_of, still_to_come};
 
     ghost Value = { Standing };
 
-    ghost view = { λ b. record {
-      trace = b.trace.items;
-      state = record {
-        newest = b.newest;
-        oldest = b.durable;
-        durable = b.durable;
-        available = b.available;
-        flight = None;
-        pieces = b.shards;
-        watches = [];
-      };
-      window = b.window;
-      base = pairs_of b.base;
-    } };
+    ghost view = { λ b. board_of b.trace.items b.newest b.durable b.flight b.shards b.window (pairs_of b.base) };
 
     ghost invariant = { λ b.
-        Keeps N.given N.opening (record {
-          trace = b.trace.items;
-          state = record {
-            newest = b.newest;
-            oldest = b.durable;
-            durable = b.durable;
-            available = b.available;
-            flight = None;
-            pieces = b.shards;
-            watches = [];
-          };
-          window = b.window;
-          base = pairs_of b.base;
-        })
+        Keeps N.given N.opening N.store (board_of b.trace.items b.newest b.durable b.flight b.shards b.window (pairs_of b.base))
         × (b.settings ≡ N.given.settings)
-        × (vec_len b.trace < vec_capacity b.trace) };
+        × (b.durable.assigned ≡ assigned N.given.own N.given.log b.durable.version)
+        × ForSome b.flight (λ next. next.assigned ≡ assigned N.given.own N.given.log next.version)
+        × (b.clears.items ≡ clears_left N.opening N.store b.trace.items)
+        × (vec_len b.trace + still_to_come b.flight ≤ vec_capacity b.trace) };
 }
 
 impl<N: Story> Board<N> {
     ghost use Rattle.std.specs.Prelude.{◌↔◌, ◌⊎◌, IsErrOf};
+    ghost use Rattle.st_board.specs.Jobs.{AreChanges, clears_left, clears_of, job_of, value_behind};
     ghost use Rattle.st_board.specs.Kept.{IsUsers};
     ghost use Rattle.st_board.specs.Stands.{IsStill, StandsFor, last_event};
     ghost use Rattle.st_board.specs.Values.{value_of};
     ghost use Rattle.st_board.specs.Views.{IsViewed};
     ghost use Rattle.st_versioned.specs.Root.{over, value_at};
     ghost use Rattle.st_board.specs.declared.refusal.ApplyRefusal.TheVariants as apply;
-    ghost use Rattle.st_model.specs.State.{after_batch, assigned, first_state, next_batch};
+    ghost use Rattle.st_model.specs.State.{after_batch, assigned, began, commit_due, commit_version, end_commit, first_state, next_batch};
 
     /// The board of an opening, of which nothing was applied. Its base has the values of the opening's version. The log owns all
     /// keys and moves none.
@@ -92,6 +80,8 @@ impl<N: Story> Board<N> {
         requires still { IsStill N.given N.opening }
         requires assigned { o.assigned ≡ assigned N.given.own N.given.log o.version }
         requires base { (key : List ℕ) → IsUsers key → value_at (pairs_of o.base) key ≡ value_of N.given.log o.version key }
+        requires pairs { N.store.pairs ≡ pairs_of o.base }
+        requires clears { o.clears.items ≡ clears_of N.store.fresh o.available }
         ensures trace { IfOk result (λ board. board.trace ≡ event.Opened o.version ∷ []) }
         ensures state { IfOk result (λ board. board.state ≡ first_state N.given N.opening) }
         ensures base { IfOk result (λ board. board.base ≡ pairs_of o.base) }
@@ -107,11 +97,16 @@ impl<N: Story> Board<N> {
             alloc,
             settings: *s,
             newest: o.version,
-            durable: o.version,
+            durable: Meta {
+                version: o.version,
+                assigned: o.assigned,
+                available: o.available,
+            },
+            flight: None,
+            clears: o.clears,
             window,
             base: o.base,
             shards,
-            available: o.available,
             trace,
             story: PhantomData,
         })
@@ -129,7 +124,7 @@ impl<N: Story> Board<N> {
     pub fn view<'a>(&'a self, range: &'a Range, version: u64) -> Result<View, ViewRefusal<'a>>
         ensures { IsViewed N.given.log self.now.state range.now version result }
     {
-        match judge(self.durable, self.newest, version) {
+        match judge(self.durable.version, self.newest, version) {
             Judged::TooOld { oldest } => return Err(ViewRefusal::TooOld { oldest }),
             Judged::NotYet { newest } => return Err(ViewRefusal::NotYet { newest }),
             Judged::Ready => {}
@@ -167,10 +162,11 @@ impl<N: Story> Board<N> {
             settings: _,
             newest: _,
             durable: _,
+            flight: _,
+            clears: _,
             window: _,
             base: _,
             shards: _,
-            available: _,
             mut trace,
             story: _,
         } = self;
@@ -193,14 +189,14 @@ impl<N: Story> Board<N> {
     pub fn oldest(&self) -> u64
         ensures { result ≡ self.now.state.oldest }
     {
-        self.durable
+        self.durable.version
     }
 
     /// The durable version.
     pub fn durable(&self) -> u64
         ensures { result ≡ self.now.state.durable }
     {
-        self.durable
+        self.durable.version
     }
 
     /// How many events the trace has.
@@ -213,7 +209,7 @@ impl<N: Story> Board<N> {
     /// The events so far.
     pub fn trace(&self) -> &[Event]
         ensures trace { result.now ≡ self.now.trace }
-        ensures stands { StandsFor N.given N.opening self.now }
+        ensures stands { StandsFor N.given N.opening N.store self.now }
     {
         self.trace.as_slice()
     }
@@ -223,6 +219,7 @@ impl<N: Story> Board<N> {
         requires { self.old.state.newest < batch.now.version → next_batch N.given self.old.state ≡ Some batch.now }
         ensures applied { OnOk result (self.new.trace ≡ self.old.trace ++ event.Applied batch.now.version ∷ []) }
         ensures state { OnOk result (self.new.state ≡ after_batch self.old.state batch.now) }
+        ensures base { self.new.base ≡ self.old.base }
         ensures err { OnErr result (self.new ≡ self.old) }
         ensures not_next { IsErrOf result (apply.NotNext self.old.state.newest) ↔ (batch.now.version ≤ self.old.state.newest) }
         ensures refused { IfErr result (λ why. (why ≡ apply.NotNext self.old.state.newest) ⊎ (why ≡ apply.NoMemory)) }
@@ -241,11 +238,12 @@ impl<N: Story> Board<N> {
         requires next { next_batch N.given self.old.state ≡ Some batch.now }
         ensures applied { OnOk result (self.new.trace ≡ self.old.trace ++ event.Applied batch.now.version ∷ []) }
         ensures state { OnOk result (self.new.state ≡ after_batch self.old.state batch.now) }
+        ensures base { self.new.base ≡ self.old.base }
         ensures err { OnErr result (self.new ≡ self.old) }
     {
         decisions_above_stay();
         clip_is_the_part_inside();
-        self.trace.reserve(2)?;
+        self.trace.reserve(3)?;
         put_next::<Brand>(
             self.alloc,
             &mut self.window,
@@ -257,5 +255,88 @@ impl<N: Story> Board<N> {
         self.newest = batch.version;
         self.trace.push_reserved(Event::Applied(batch.version));
         Ok(())
+    }
+
+    // The version that a commit would begin with: of the batches that the window lets go the last, or the durable version.
+    fn commit_version(&self) -> u64
+        ensures { result ≡ commit_version N.given self.now.state }
+    {
+        let bound = self.newest.saturating_sub(self.settings.window);
+        self.window.kept_at(bound).unwrap_or(self.durable.version)
+    }
+
+    /// Whether a commit may begin: none is in flight, and the window lets a batch go that isn't durable, or rows were fetched
+    /// that aren't in the base.
+    pub fn commit_due(&self) -> bool
+        ensures { result ≡ commit_due N.given self.now.state }
+    {
+        self.flight.is_none()
+            && (self.durable.version < self.commit_version()
+                || self.shards.pieces().iter().any(has_rows))
+    }
+
+    /// Begins a commit and hands out its job, where one is due. It takes the memory that `committed` needs.
+    pub fn take_commit(&mut self) -> Result<Option<CommitJob>, AllocError>
+        ensures due { IfOk result (λ taken. is_some taken ≡ commit_due N.given self.old.state) }
+        ensures began { IfOk result (λ taken. IfSome taken (λ job. self.new.trace ≡ self.old.trace ++ event.Began job.version ∷ [])) }
+        ensures state { IfOk result (λ taken. IfSome taken (λ job. self.new.state ≡ began N.given self.old.state job.version)) }
+        ensures job { IfOk result (λ taken. IfSome taken (λ job. job_of N.given (clears_left N.opening N.store self.new.trace) self.new.state ≡ Some job)) }
+        ensures changes { IfOk result (λ taken. IfSome taken (λ job. AreChanges job.ops)) }
+        ensures base { self.new.base ≡ self.old.base }
+        ensures none { IfOk result (λ taken. taken ≡ None → self.new ≡ self.old) }
+        ensures err { OnErr result (self.new ≡ self.old) }
+    {
+        if !self.commit_due() {
+            return Ok(None);
+        }
+        Ok(Some(self.begin_commit()?))
+    }
+
+    fn begin_commit(&mut self) -> Result<CommitJob, AllocError>
+        requires { IsTrue (commit_due N.given self.old.state) }
+        ensures began { IfOk result (λ job. self.new.trace ≡ self.old.trace ++ event.Began job.version ∷ []) }
+        ensures state { IfOk result (λ job. self.new.state ≡ began N.given self.old.state job.version) }
+        ensures job { IfOk result (λ job. job_of N.given (clears_left N.opening N.store self.new.trace) self.new.state ≡ Some job) }
+        ensures changes { IfOk result (λ job. AreChanges job.ops) }
+        ensures base { self.new.base ≡ self.old.base }
+        ensures err { OnErr result (self.new ≡ self.old) }
+    {
+        let version = self.commit_version();
+        let next = Meta {
+            version,
+            assigned: self.durable.assigned.clone()?,
+            available: self.durable.available.clone()?,
+        };
+        let ops = ops_of(self.alloc, self.clears.as_slice(), &self.window, &next)?;
+        self.trace.reserve(3)?;
+        let Ok(()) = self.shards.take() else {
+            return Err(AllocError);
+        };
+        self.flight = Some(next);
+        self.trace.push_reserved(Event::Began(version));
+        Ok(CommitJob {
+            version,
+            ops: Items::from_vec(ops),
+        })
+    }
+
+    /// The commit of a job is durable, and this is the base that its operations made: the versions below its own are forgotten.
+    /// It takes no memory.
+    pub fn committed(&mut self, job: CommitJob, base: PTree<Bytes>)
+        requires job { job_of N.given (clears_left N.opening N.store self.old.trace) self.old.state ≡ Some job }
+        requires base { (key : List ℕ) → IsUsers key → value_at (pairs_of base) key ≡ value_behind key (value_at self.old.base key) job.ops }
+        ensures trace { self.new.trace ≡ self.old.trace ++ event.Durable job.version ∷ [] }
+        ensures state { end_commit self.old.state job.version self.old.state.flight ≡ Some self.new.state }
+        ensures base { self.new.base ≡ pairs_of base }
+    {
+        let Some(next) = self.flight.take() else {
+            return;
+        };
+        self.window.forget_before(job.version);
+        self.shards.settle(job.version);
+        self.durable = next;
+        self.base = base;
+        self.clears.clear();
+        self.trace.push_reserved(Event::Durable(job.version));
     }
 }

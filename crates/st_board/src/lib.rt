@@ -2,7 +2,8 @@
 #![tactic(auto)]
 
 mod board;
-mod laws;
+mod committing;
+mod job;
 mod opening;
 mod refusal;
 mod storing;
@@ -13,7 +14,7 @@ mod versions;
 mod view;
 
 pub use board::Board;
-pub use laws::durable_versions_are_forgotten;
+pub use job::CommitJob;
 pub use opening::Opening;
 pub use refusal::{ApplyRefusal, ViewRefusal};
 pub use story::Story;

@@ -14,6 +14,6 @@ pub struct Opening {
     pub available: Ranges,
     /// The pairs of the available keys.
     pub base: PTree<Bytes>,
-    /// What the first commit clears of a store that has pairs beside these.
+    /// What the first commit clears: all other keys, where the store has frames, and nothing in a fresh one.
     pub clears: Vec<Range>,
 }

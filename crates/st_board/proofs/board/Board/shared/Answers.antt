@@ -11,7 +11,7 @@ pub returns-in_ok-share-in-Some : goal.returns-in_ok-share-in-Some
 returns-in_ok-share-in-Some g c = λ key users.
     let given = g.N.Story.given in
     let board = c.args.self.now in
-    let stands = subst (StandsFor given g.N.Story.opening) c.self.view_is (stands-for given g.N.Story.opening _ c.self.invariant.0) in
+    let stands = subst (StandsFor given g.N.Story.opening g.N.Story.store) c.self.view_is (stands-for given g.N.Story.opening g.N.Story.store _ c.self.invariant.0) in
     let is : root_of board.window c.args.version ≡ Some c.in-Some.root =
     sym (c.in_ok-root.ensures.root ∙ ap (λ (b : Standing). root_of b.window c.args.version) c.self.view_is) ∙ c.in-Some.is in
     ap (λ base. over c.in-Some.root base key) (ap pairs_of c.in_ok-share-in-Some.ensures.same ∙ ap (λ (b : Standing). b.base) c.self.view_is)

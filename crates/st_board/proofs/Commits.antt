@@ -1,6 +1,6 @@
 -- A commit of a board: it begins, and it is durable.
-use Rattle.std.proofs.Common.{◌≡◌, ◌∙◌, ◌≤◌, inl, inr, ◌++◌, ◌-◌, ◌&&◌, ℕ, suc, max, Bool, true, false, cond, nat_le, nat_lt, leb-true, List, [], ◌∷◌, filter, fold, map, Option, Some, None, unwrap_or, refl, sym, ap, subst, arith}
-use Rattle.std.specs.List.{AllByRecursion, flat_map, list_any}
+use Rattle.std.proofs.Common.{◌≡◌, ◌∙◌, ◌≤◌, ◌<◌, ◌^◌, inl, inr, ◌++◌, ◌-◌, ◌&&◌, ℕ, suc, max, Bool, true, false, cond, nat_le, nat_lt, leb-true, List, [], ◌∷◌, filter, fold, map, Option, Some, None, unwrap_or, refl, sym, ap, subst, arith}
+use Rattle.std.specs.List.{AllByRecursion, flat_map, list_all, list_any}
 use Rattle.std.specs.Option.{option_map, option_map_or, option_or}
 use Rattle.std.proofs.lemmas.Bool.{lt-leb}
 use Rattle.std.proofs.lemmas.List.{append-nil}
@@ -8,12 +8,12 @@ use Rattle.std.proofs.lemmas.Option.{same_Some}
 use Rattle.st_fold.specs.Map.{Map, batches_to}
 use Rattle.st_fold.specs.declared.report.Event.{Event}
 use Rattle.st_fold.specs.declared.report.Event.TheVariants.{Began, Durable}
-use Rattle.st_key.specs.Parts.{with_span, without_span}
+use Rattle.st_key.specs.Parts.{lies_in, with_span, without_span}
 use Rattle.st_key.specs.Spans.{Span, all_keys}
-use Rattle.st_meta.specs.Stored.{sets_of, stored}
+use Rattle.st_meta.specs.Stored.{IsState, SpellsRanges, ranges_bytes, sets_of, stored}
 use Rattle.st_meta.specs.declared.state.Meta.{Meta}
 use Rattle.st_model.specs.Pieces.{by_phase, rows_in_base, rows_taken, span_of, waits_to}
-use Rattle.st_model.specs.State.{Given, Opening, State, available_at, began, commit_due, commit_version, end_commit, ended, released, released_between, released_in, step}
+use Rattle.st_model.specs.State.{Given, Opening, State, assigned, available_at, began, commit_due, commit_version, end_commit, ended, released, released_between, released_in, step}
 use Rattle.st_model.specs.Trace.{is_end, state_after}
 use Rattle.st_model.specs.declared.piece.Piece.{Piece}
 use Rattle.st_mutation.specs.declared.batch.Batch.{Batch}
@@ -180,6 +180,18 @@ module _ (given : Given) (opening : Opening) (store : Store) (board : Standing) 
           map clear_of ((left ∙ sym (ap (clears_left opening store) more ∙ left-more opening store board.trace (Began version))) i)
           ++ flat_map (λ made. op_of made.1) ((ap (λ v. mutations_to v board.window) is_version ∙ kept-sent version version-read) i)
           ++ sets_of (stored (is_meta i))
+
+  -- what it will store is a state
+  pub state-stored : (v : ℕ) (available : List Span) → v < 2 ^ 64 → available ≡ board.state.available → IsState (meta_of given (record { version = v; available = available }))
+  state-stored v available small same = record {
+    small = small;
+    assigned = spells (assigned given.own given.log v) (all-assigned given opening keeps.still v);
+    available = spells available (same ∙ keeps.available);
+    inside = λ i. list_all (lies_in (all-assigned given opening keeps.still v i)) ((same ∙ keeps.available) i);
+  }
+    where
+      spells : (spans : List Span) → spans ≡ all_keys ∷ [] → SpellsRanges (ranges_bytes spans) spans
+      spells spans is = subst (λ s. SpellsRanges (ranges_bytes s) s) (sym is) (record { spelled = refl; canonical = refl; ranges = refl; fits = omega arith })
 
   -- ---- a commit is durable
 

@@ -63,7 +63,9 @@ impl<N: Story> Model for Board<N> {
 
 impl<N: Story> Board<N> {
     ghost use Rattle.std.specs.Prelude.{◌↔◌, ◌⊎◌, IsErrOf};
-    ghost use Rattle.st_board.specs.Jobs.{AreChanges, clears_left, clears_of, job_of, value_behind};
+    ghost use Rattle.std.specs.Option.{ForSome};
+    ghost use Rattle.st_board.specs.Jobs.{AreChanges, clears_left, clears_of, job_of, meta_of, value_behind};
+    ghost use Rattle.st_meta.specs.Stored.{IsState};
     ghost use Rattle.st_board.specs.Kept.{IsUsers};
     ghost use Rattle.st_board.specs.Stands.{IsStill, StandsFor, last_event};
     ghost use Rattle.st_board.specs.Values.{value_of};
@@ -282,6 +284,7 @@ impl<N: Story> Board<N> {
         ensures state { IfOk result (λ taken. IfSome taken (λ job. self.new.state ≡ began N.given self.old.state job.version)) }
         ensures job { IfOk result (λ taken. IfSome taken (λ job. job_of N.given (clears_left N.opening N.store self.new.trace) self.new.state ≡ Some job)) }
         ensures changes { IfOk result (λ taken. IfSome taken (λ job. AreChanges job.ops)) }
+        ensures stored { IfOk result (λ taken. IfSome taken (λ job. ForSome self.new.state.flight (λ flight. IsState (meta_of N.given flight)))) }
         ensures base { self.new.base ≡ self.old.base }
         ensures none { IfOk result (λ taken. taken ≡ None → self.new ≡ self.old) }
         ensures err { OnErr result (self.new ≡ self.old) }
@@ -298,6 +301,7 @@ impl<N: Story> Board<N> {
         ensures state { IfOk result (λ job. self.new.state ≡ began N.given self.old.state job.version) }
         ensures job { IfOk result (λ job. job_of N.given (clears_left N.opening N.store self.new.trace) self.new.state ≡ Some job) }
         ensures changes { IfOk result (λ job. AreChanges job.ops) }
+        ensures stored { IfOk result (λ job. ForSome self.new.state.flight (λ flight. IsState (meta_of N.given flight))) }
         ensures base { self.new.base ≡ self.old.base }
         ensures err { OnErr result (self.new ≡ self.old) }
     {

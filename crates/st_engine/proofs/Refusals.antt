@@ -1,5 +1,5 @@
 -- What a refusal of a queue's calls leaves.
-use Rattle.std.proofs.Common.{◌≡◌, ◌∙◌, ◌<◌, ℕ, List, Option, Some, None, Bool, false, IsTrue, if◌then◌else◌, Result, Err, IsErrOf, refl, sym, ap, subst}
+use Rattle.std.proofs.Common.{◌≡◌, ◌∙◌, ◌<◌, ℕ, List, Option, Some, None, Bool, false, IsTrue, if◌then◌else◌, Result, Err, IfErr, IsErrOf, refl, sym, ap, subst}
 use Rattle.std.specs.Option.{option_map}
 use Rattle.std.proofs.lemmas.Bool.{false≢true}
 use Rattle.std.proofs.lemmas.Option.{same_Some}
@@ -88,3 +88,7 @@ unbroken-before NoMemory state is = is
 unbroken-before (Broken faults) state is = is
 unbroken-before (Damaged file at) state is = is
 unbroken-before (Full length limit) state is = is
+
+-- a queue that was broken tells it before it does anything
+pub told-broken : {T : Type 0} → (refusal : QueueRefusal) (faults : ℕ) → ◌≡◌ {A = Result T QueueRefusal} (Err refusal) (Err (Broken faults)) → IsBefore refusal
+told-broken {T} refusal faults is = subst (λ (r : Result T QueueRefusal). IfErr r IsBefore) (sym is) tt

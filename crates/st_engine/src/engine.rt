@@ -137,6 +137,7 @@ impl<D: Disk> Engine<D> {
             → ToldFewer self.old.state.discarded (D.history self.old.disk) (D.history self.new.disk)) }
         ensures place { OnOk result (self.new.state.current ≡ Some (behind_frame (frame_place self.old.state) (payload_of self.old.quota self.old.cursor self.old.pairs ops.now))) }
         ensures fresh { OnOk result (self.new.fresh ≡ false) }
+        ensures unbroken { OnOk result (self.new.state.broken ≡ None) }
         ensures quota { self.new.quota ≡ self.old.quota }
         ensures cursor { OnOk result (self.new.cursor
             ≡ cursor_behind self.old.cursor (room_of self.old.quota ops.now) (ops_on self.old.pairs ops.now)) }
@@ -149,6 +150,7 @@ impl<D: Disk> Engine<D> {
         ensures broken { (faults : ℕ) → result ≡ Err (Broken faults) → self.old.state.broken ≡ Some faults }
         ensures was_broken { (faults : ℕ) → self.old.state.broken ≡ Some faults
             → IsErrAnd result (λ refusal. (refusal ≡ Broken faults) ⊎ (refusal ≡ NoMemory)) }
+        ensures untouched { (faults : ℕ) → self.old.state.broken ≡ Some faults → self.new.disk ≡ self.old.disk }
         ensures full { (long limit : ℕ) → result ≡ Err (Full long limit) → IsPastLimit self.old.state (payload_of self.old.quota self.old.cursor self.old.pairs ops.now) long limit }
         ensures past { (long limit : ℕ) → IsPastLimit self.old.state (payload_of self.old.quota self.old.cursor self.old.pairs ops.now) long limit
             → IsErrAnd result (λ refusal. (refusal ≡ Full long limit) ⊎ IsOutside refusal) }

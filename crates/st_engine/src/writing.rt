@@ -49,6 +49,7 @@ fn enter_due<D: Disk>(queue: &mut Queue<D>) -> Result<(), QueueRefusal>
     ensures was_broken { (faults : ℕ) → (queue.old.state.broken ≡ Some faults) → IfErr result (λ refusal. refusal ≡ Broken faults) }
     ensures err { IfErr result (λ refusal. queue.new.state.broken ≡ (after_refusal refusal queue.old.state).broken) }
     ensures kept { OnOk result (queue.new.state.broken ≡ queue.old.state.broken) }
+    ensures untouched { (faults : ℕ) → queue.old.state.broken ≡ Some faults → queue.new.disk ≡ queue.old.disk }
     ensures full { (long limit : ℕ) → (result ≡ Err (Full long limit)) → HasNoNextFile queue.old.state long limit }
     ensures spent { (long limit : ℕ) → HasNoNextFile queue.old.state long limit → result ≡ Err (Full long limit) }
     ensures refuses { IfErr result IsOfWriting }
@@ -78,6 +79,7 @@ pub(crate) fn append<D: Disk>(queue: &mut Queue<D>, payload: &[u8]) -> Result<u6
     ensures ok { OnOk result (queue.new.state.current ≡ Some (behind_frame (frame_place queue.old.state) payload.now)) }
     ensures number { IfOk result (λ seq. seq ≡ (frame_place queue.old.state).next) }
     ensures kept { OnOk result (queue.new.state.broken ≡ queue.old.state.broken) }
+    ensures untouched { (faults : ℕ) → queue.old.state.broken ≡ Some faults → queue.new.disk ≡ queue.old.disk }
     ensures broken { (faults : ℕ) → (result ≡ Err (Broken faults)) ↔ (queue.old.state.broken ≡ Some faults) }
     ensures full { (long limit : ℕ) → result ≡ Err (Full long limit) → IsPastLimit queue.old.state payload.now long limit }
     ensures past { (long limit : ℕ) → IsPastLimit queue.old.state payload.now long limit

@@ -9,7 +9,7 @@ use Rattle.st_queue.specs.declared.state.State.{State}
 use Rattle.st_engine.proofs.Cases.{no-fault, same_Err}
 use Rattle.st_engine.specs.Commit.{begun, frame_place}
 use Rattle.st_engine.proofs.Histories.{joined-more, one-more, option_map-twice, still-less}
-use Rattle.st_engine.proofs.Refusals.{outside, past-before, past-now, refused-frames, unbroken-before, untold-frames}
+use Rattle.st_engine.proofs.Refusals.{outside, past-before, past-now, refused-frames, told-broken, unbroken-before, untold-frames}
 use Rattle.st_engine.proofs.writing.append.Goals as goal
 
 pub returns-in_err-enter_due-clause-broken : goal.returns-in_err-enter_due-clause-broken
@@ -141,3 +141,11 @@ returns-clause-past g c = λ long limit past. ⊎_elim
     let done = c.in_ok-seq.was in
     absurd (cc (full, done)))
     past
+
+pub returns-in_err-seq-clause-untouched : goal.returns-in_err-seq-clause-untouched
+returns-in_err-seq-clause-untouched g c = λ faults broken.
+    c.in_err-seq.ensures.untouched (told-broken c.in_err-seq.field-0.0 faults ((c.in_err-seq.ensures.broken faults).1 (c.in_ok-enter_due.ensures.kept ∙ broken)))
+    ∙ c.enter_due.ensures.untouched faults broken
+
+pub returns-clause-untouched : goal.returns-clause-untouched
+returns-clause-untouched g c = λ faults broken. absurd (cc ((c.in_ok-seq.ensures.broken faults).1 (c.in_ok-enter_due.ensures.kept ∙ broken)))

@@ -4,7 +4,7 @@ use Rattle.std.proofs.lemmas.Result.{err_from_is_err_and}
 use Rattle.std.specs.Option.{option_map}
 use Rattle.st_queue.specs.Place.{next_file, next_place}
 use Rattle.st_queue.specs.Writing.{entered, told_frames}
-use Rattle.st_engine.proofs.Refusals.{due-place, else-place, entering-writing, never-full, refused-frames, unbroken-before, untold-frames}
+use Rattle.st_engine.proofs.Refusals.{due-place, else-place, entering-writing, never-full, refused-frames, told-broken, unbroken-before, untold-frames}
 use Rattle.st_queue.specs.declared.frame.QueueRefusal.{QueueRefusal}
 use Rattle.st_queue.specs.declared.frame.QueueRefusal.TheVariants.{Broken, Full}
 use Rattle.st_queue.specs.declared.state.State.{State}
@@ -138,3 +138,13 @@ returns-else-due-clause-spent g c = λ long limit no. absurd (false≢true (sym 
 
 pub returns-else-due-clause-ok : goal.returns-else-due-clause-ok
 returns-else-due-clause-ok g c = else-place c.args.queue.now.state (sym c.due.ensures.due ∙ c.if-due.false)
+
+pub returns-in_err-recycle-clause-untouched : goal.returns-in_err-recycle-clause-untouched
+returns-in_err-recycle-clause-untouched g c = λ faults broken.
+    c.in_err-recycle.ensures.untouched (told-broken c.in_err-recycle.field-0.0 faults ((c.in_err-recycle.ensures.broken faults).1 broken))
+
+pub returns-in_err-enter_next-clause-untouched : goal.returns-in_err-enter_next-clause-untouched
+returns-in_err-enter_next-clause-untouched g c = λ faults broken. absurd (cc ((c.in_ok-recycle.ensures.broken faults).1 broken))
+
+pub returns-in_ok-enter_next-clause-untouched : goal.returns-in_ok-enter_next-clause-untouched
+returns-in_ok-enter_next-clause-untouched g c = λ faults broken. absurd (cc ((c.in_ok-recycle.ensures.broken faults).1 broken))

@@ -1,13 +1,14 @@
 use Rattle.std.proofs.Common.{◌≡◌, ◌∙◌, ◌++◌, ◌∷◌, [], true, Some, ap, sym, subst, arith}
 use Rattle.std.proofs.lemmas.Option.{same_Some}
 use Rattle.st_fold.specs.declared.report.Event.TheVariants as event
+use Rattle.st_meta.specs.Stored.{IsState}
 use Rattle.st_meta.specs.declared.state.Meta.{Meta}
-use Rattle.st_model.specs.State.{State, assigned, began, commit_due, commit_version}
+use Rattle.st_model.specs.State.{Opening, State, assigned, began, commit_due, commit_version}
 use Rattle.st_ptree.specs.Entries.{pairs_of}
-use Rattle.st_board.specs.Jobs.{clears_left, job_of}
+use Rattle.st_board.specs.Jobs.{clears_left, job_of, meta_of}
 use Rattle.st_board.specs.Stands.{Keeps, Standing, board_of}
 use Rattle.st_board.proofs.Beginning.{all-assigned}
-use Rattle.st_board.proofs.Commits.{begun-of, is_begun, job-begun, keeps-began}
+use Rattle.st_board.proofs.Commits.{begun-of, is_begun, job-begun, keeps-began, state-stored}
 use Rattle.st_board.proofs.Jobs.{left-more}
 use Rattle.st_board.proofs.board.Board.begin_commit.Goals as goal
 
@@ -67,3 +68,14 @@ returns-clause-job g c =
     ∙ job-begun given opening store board keeps c.as_slice.result.now next c.in_ok-ops.ops.items c.push_reserved.new.self.items more (c.as_slice.ensures.value ∙ c.self.invariant.4) version_is
     (c.in_ok-clone.ensures.cases ∙ c.self.invariant.2 ∙ all-assigned given opening keeps.still c.self.inside.durable.version) c.in_ok-clone-2.ensures.cases c.in_ok-ops.ensures.ops
     ∙ (λ i. Some (record { version = sym version_is i; ops = sym c.from_vec.ensures i }))
+
+pub returns-clause-stored : goal.returns-clause-stored
+returns-clause-stored g c =
+    let given = g.N.Story.given in
+    let opening = g.N.Story.opening in
+    let store = g.N.Story.store in
+    let version = c.commit_version-version.result in
+    let flight : Opening = record { version = version; available = c.in_ok-clone-2.field-0 } in
+    λ other is.
+    subst (λ (f : Opening). IsState (meta_of given f)) (same_Some flight other is)
+    (state-stored given opening store _ c.self.invariant.0 version c.in_ok-clone-2.field-0 (omega arith) c.in_ok-clone-2.ensures.cases)

@@ -3,7 +3,7 @@ use Rattle.std.proofs.Common.{◌≡◌, ℕ, ◌<◌, ◌≤◌, Bool, true, fa
 use Rattle.std.proofs.lemmas.Bool.{cond_both, cond-true, cond-false, or_cases, or_parts, or_left, or_right, or_from, and_parts, and_left, leb-true, leb-false, le-leb, lt-leb, ltb-true, lt-ltb, eqb-true, eq-eqb, ne_eqb, both_ways, cases_lt}
 use Rattle.std.proofs.lemmas.List.Folds.{list_any-append}
 use Rattle.std.proofs.lemmas.List.Sums.{fold-append}
-use Rattle.std.specs.List.{AllByRecursion, flat_map}
+use Rattle.std.specs.List.{AllByRecursion, flat_map, list_any}
 use Rattle.st_key.proofs.Members.{holds-with_span, holds-without_span}
 use Rattle.st_key.specs.Parts.{with_span, without_span}
 use Rattle.st_key.specs.Spans.{Span, within, holds}
@@ -17,7 +17,7 @@ use Rattle.st_model.specs.Plain.{IsSplit, plain_state}
 use Rattle.st_model.specs.State.{Given, assigned, next_batch, move_span, released, released_in, released_between}
 use Rattle.st_model.proofs.Batches.{none_to, next_is, first_is}
 
-or_false : (x : Bool) → (x || false) ≡ x
+pub or_false : (x : Bool) → (x || false) ≡ x
 or_false true = refl
 or_false false = refl
 
@@ -170,28 +170,32 @@ assigned_on own log newest upto left split low =
         ∙ ap (fold move_all own) (to_applied newest upto split.applied left split.below low)
         ∙ fold-append move_all own split.applied (batches_to upto left)
 
--- what a batch takes away of those that are left
-takes_left : (log : List Batch) (newest : ℕ) (left : List Batch) (version : ℕ) (key : List ℕ) → IsSplit log newest left → newest < version
-    → takes_away log version key ≡ takes_away left version key
-takes_left log newest left version key split later =
-    ap (λ batches. takes_away batches version key) split.whole
-    ∙ list_any-append (takes version key) split.applied left
-    ∙ ap (λ b. b || takes_away left version key) (none split.applied split.below)
+-- what holds of the batch of a version
+abbrev at_version : ℕ → (Batch → Bool) → Batch → Bool
+at_version version test batch = batch.version == version && test batch
+
+-- only those that are left have a version above here
+any_left : (log : List Batch) (newest : ℕ) (left : List Batch) (version : ℕ) (test : Batch → Bool) → IsSplit log newest left → newest < version
+    → list_any (at_version version test) log ≡ list_any (at_version version test) left
+any_left log newest left version test split later =
+    ap (list_any (at_version version test)) split.whole
+    ∙ list_any-append (at_version version test) split.applied left
+    ∙ ap (λ b. b || list_any (at_version version test) left) (none split.applied split.below)
   where
-    none : (applied : List Batch) → AllByRecursion (λ batch. batch.version ≤ newest) applied → takes_away applied version key ≡ false
+    none : (applied : List Batch) → AllByRecursion (λ batch. batch.version ≤ newest) applied → list_any (at_version version test) applied ≡ false
     none [] below = refl
     none (batch ∷ applied) below =
-        or_from (takes version key batch) (takes_away applied version key)
-        (and_left (batch.version == version) (holds (released_in batch) key) (ne_eqb batch.version version (λ same. omega (arith, below.0))))
+        or_from (at_version version test batch) (list_any (at_version version test) applied)
+        (and_left (batch.version == version) (test batch) (ne_eqb batch.version version (λ same. omega (arith, below.0))))
         (none applied below.1)
 
--- no batch of a log that begins above a version takes anything away there
-takes_none : (log : List Batch) (low version : ℕ) (key : List ℕ) → Rises low log → version ≤ low → takes_away log version key ≡ false
-takes_none [] low version key rises under = refl
-takes_none (batch ∷ log) low version key rises under =
-    or_from (takes version key batch) (takes_away log version key)
-    (and_left (batch.version == version) (holds (released_in batch) key) (ne_eqb batch.version version (λ same. omega (arith, rises.0))))
-    (takes_none log batch.version version key rises.1 (omega (arith, rises.0)))
+-- no batch of a log that begins above a version has it
+any_none : (log : List Batch) (low version : ℕ) (test : Batch → Bool) → Rises low log → version ≤ low → list_any (at_version version test) log ≡ false
+any_none [] low version test rises under = refl
+any_none (batch ∷ log) low version test rises under =
+    or_from (at_version version test batch) (list_any (at_version version test) log)
+    (and_left (batch.version == version) (test batch) (ne_eqb batch.version version (λ same. omega (arith, rises.0))))
+    (any_none log batch.version version test rises.1 (omega (arith, rises.0)))
 
 -- a key that is assigned, and that no batch up to a version takes away, is assigned there
 pub assigned_since : (own : List Span) (log : List Batch) (low newest upto : ℕ) (key : List ℕ) → Rises low log → newest ≤ upto
@@ -202,7 +206,7 @@ assigned_since own log low newest upto key rises under is none =
     let split = split_here log low newest rises in
     ap (λ spans. holds spans key) (assigned_on own log newest upto split.0 split.1 under)
     ∙ keeps (assigned own log newest) newest split.0 split.1.above is
-    (λ version later high. sym (takes_left log newest split.0 version key split.1 later) ∙ none version later high)
+    (λ version later high. sym (any_left log newest split.0 version (λ batch. holds (released_in batch) key) split.1 later) ∙ none version later high)
   where
     keeps : (spans : List Span) (from : ℕ) (left : List Batch) → Rises from left → holds spans key ≡ true
         → ((version : ℕ) → from < version → version ≤ upto → takes_away left version key ≡ false)
@@ -224,13 +228,14 @@ assigned_since own log low newest upto key rises under is none =
 
 -- ---- the batch that comes next
 
--- nothing moves up to it, and it moves what its moves say
+-- nothing moves up to it, it moves what its moves say, and it is the one batch of its version
 pub record IsNext (own : List Span) (log : List Batch) (newest : ℕ) (batch : Batch) : Type 0 where
   pub above : newest < batch.version
   pub unmoved : (version : ℕ) → newest ≤ version → version < batch.version → assigned own log version ≡ assigned own log newest
   pub moved : assigned own log batch.version ≡ fold move_span (assigned own log newest) batch.moves
-  pub takes_none : (version : ℕ) (key : List ℕ) → newest < version → version < batch.version → takes_away log version key ≡ false
-  pub takes : (key : List ℕ) → takes_away log batch.version key ≡ holds (released_in batch) key
+  pub none_between : (version : ℕ) (test : Batch → Bool) → newest < version → version < batch.version
+      → list_any (λ other. other.version == version && test other) log ≡ false
+  pub alone : (test : Batch → Bool) → list_any (λ other. other.version == batch.version && test other) log ≡ test batch
 
 pub is_next : (given : Given) (newest low : ℕ) (batch : Batch) → Rises low given.log → next_batch given (plain_state newest) ≡ Some batch
     → IsNext given.own given.log newest batch
@@ -255,14 +260,14 @@ is_next given newest low batch rises e =
               (cond-true (nat_le batch.version batch.version) (batch ∷ batches_to batch.version later) (batches_to batch.version later)
               (le-leb batch.version batch.version (le_refl batch.version))
               ∙ ap (λ batches. batch ∷ batches) (none_to batch.version batch.version later (le_refl batch.version) here.above.1));
-          takes_none = λ version key under over.
-              takes_left given.log newest (batch ∷ later) version key here under
-              ∙ or_from (takes version key batch) (takes_away later version key)
-              (and_left (batch.version == version) (holds (released_in batch) key) (ne_eqb batch.version version (λ same. omega arith)))
-              (takes_none later batch.version version key here.above.1 (le_of_lt over));
-          takes = λ key.
-              takes_left given.log newest (batch ∷ later) batch.version key here here.above.0
-              ∙ ap (λ b. (b && holds (released_in batch) key) || takes_away later batch.version key) (eq-eqb batch.version batch.version refl)
-              ∙ ap (λ b. holds (released_in batch) key || b) (takes_none later batch.version batch.version key here.above.1 (le_refl batch.version))
-              ∙ or_false (holds (released_in batch) key);
+          none_between = λ version test under over.
+              any_left given.log newest (batch ∷ later) version test here under
+              ∙ or_from (at_version version test batch) (list_any (at_version version test) later)
+              (and_left (batch.version == version) (test batch) (ne_eqb batch.version version (λ same. omega arith)))
+              (any_none later batch.version version test here.above.1 (le_of_lt over));
+          alone = λ test.
+              any_left given.log newest (batch ∷ later) batch.version test here here.above.0
+              ∙ ap (λ b. (b && test batch) || list_any (at_version batch.version test) later) (eq-eqb batch.version batch.version refl)
+              ∙ ap (λ b. test batch || b) (any_none later batch.version batch.version test here.above.1 (le_refl batch.version))
+              ∙ or_false (test batch);
         }

@@ -1,16 +1,16 @@
 -- Lists of pieces under changes: what holds of each piece, and that the pieces follow one another.
-use Rattle.std.proofs.Common.{◌≡◌, ℕ, Bool, true, false, ◌&&◌, cond, List, [], ◌∷◌, ◌++◌, map, bytes_eq, Some, if◌then◌else◌, refl, sym, ap, subst, ◌∙◌}
-use Rattle.std.proofs.lemmas.Bool.{cond_both, and_parts, and_from, and_left, and_right, true≢false}
+use Rattle.std.proofs.Common.{◌≡◌, ℕ, Bool, true, false, not, ◌&&◌, cond, List, [], ◌∷◌, ◌++◌, map, bytes_eq, Option, Some, None, is_some, IsSome, IfSome, MatchOption, if◌then◌else◌, refl, sym, ap, subst, ◌∙◌}
+use Rattle.std.proofs.lemmas.Bool.{cond_both, and_parts, and_from, and_left, and_right, not-true, true≢false}
 use Rattle.std.proofs.lemmas.Slice.Eq.{bytes_eq-Decides}
 use Rattle.std.specs.List.{AllByRecursion, flat_map, find}
-use Rattle.std.specs.Option.{option_map_or}
+use Rattle.std.specs.Option.{option_map, option_map_or}
 use Rattle.st_key.specs.KeyOrder.{less_irrefl, less_asym, less_le_trans, le_less_trans}
-use Rattle.st_key.specs.Spans.{Span, key_less}
+use Rattle.st_key.specs.Spans.{Span, key_less, within}
 use Rattle.st_model.specs.declared.piece.Piece.{Piece}
 use Rattle.st_model.specs.declared.piece.Phase.{Phase}
-use Rattle.st_model.specs.Partition.{Tiles}
+use Rattle.st_model.specs.Partition.{Tiles, piece_at, phase_at}
 use Rattle.st_model.specs.Pieces.{span_of, begins, change_at, cut, cut_where, part}
-use Rattle.st_model.proofs.Lists.{all_append}
+use Rattle.st_model.proofs.Lists.{all_append, all_map}
 
 -- ---- keys
 
@@ -177,3 +177,54 @@ uncut_parts test key same p span low high has uncut passes =
       | false ↦ λ _. refl
     ]
     refl
+
+-- ---- the piece that has a key
+
+-- what holds of each piece that has a key holds of the one that is found for it
+pub found : (P : Piece → Type 0) (ps : List Piece) (key : List ℕ) → AllByRecursion (λ p. within (span_of p) key ≡ true → P p) ps
+    → IsSome (piece_at ps key) → MatchOption (piece_at ps key) ⊥ P
+found P [] key all some = cc
+found P (p ∷ ps) key all some =
+    elim (within (span_of p) key) as (λ v. within (span_of p) key ≡ v → is_some (cond v (Some p) (piece_at ps key)) ≡ true
+    → MatchOption (cond v (Some p) (piece_at ps key)) ⊥ P)
+    [ true ↦ λ inside _. all.0 inside | false ↦ λ _ later. found P ps key all.1 later ]
+    refl some
+
+-- and of the one that is found, where there is one
+pub found_if : (P : Piece → Type 0) (ps : List Piece) (key : List ℕ) → AllByRecursion (λ p. within (span_of p) key ≡ true → P p) ps
+    → IfSome (piece_at ps key) P
+found_if P [] key all = tt
+found_if P (p ∷ ps) key all =
+    elim (within (span_of p) key) as (λ v. within (span_of p) key ≡ v → IfSome (cond v (Some p) (piece_at ps key)) P)
+    [ true ↦ λ inside. all.0 inside | false ↦ λ _. found_if P ps key all.1 ]
+    refl
+
+pub of_phase : (P : Phase → Type 0) (o : Option Piece) → MatchOption o ⊥ (λ p. P p.phase)
+    → MatchOption (option_map (λ piece. piece.phase) o) ⊥ P
+of_phase P None h = h
+of_phase P (Some p) h = h
+
+-- the phase at a key of a piece is that piece's
+pub phases_here : (low high : List ℕ) (ps : List Piece) → Follow low high ps
+    → AllByRecursion (λ p. (key : List ℕ) → within (span_of p) key ≡ true → phase_at ps key ≡ Some p.phase) ps
+phases_here low high [] h = tt
+phases_here low high (p ∷ ps) h = (
+  λ key inside. at key true inside,
+  all_map (λ q. ((key : List ℕ) → within (span_of q) key ≡ true → phase_at ps key ≡ Some q.phase) × (key_less q.begin p.end ≡ false))
+      (λ q. (key : List ℕ) → within (span_of q) key ≡ true → phase_at (p ∷ ps) key ≡ Some q.phase)
+      (λ q both key inside. at key false (outside q key both.1 inside) ∙ both.0 key inside) ps
+      (all_both (λ q. (key : List ℕ) → within (span_of q) key ≡ true → phase_at ps key ≡ Some q.phase) (λ q. key_less q.begin p.end ≡ false) ps
+      (phases_here p.end high ps h.2) (begin_above p.end high p.end ps h.2 (less_irrefl p.end))),
+)
+  where
+    at : (key : List ℕ) (here : Bool) → within (span_of p) key ≡ here → phase_at (p ∷ ps) key ≡ cond here (Some p.phase) (phase_at ps key)
+    at key here e = ap (λ b. option_map (λ piece. piece.phase) (cond b (Some p) (piece_at ps key))) e ∙ either here
+      where
+        either : (here : Bool) → option_map (λ piece. piece.phase) (cond here (Some p) (piece_at ps key)) ≡ cond here (Some p.phase) (phase_at ps key)
+        either true = refl
+        either false = refl
+
+    outside : (q : Piece) (key : List ℕ) → key_less q.begin p.end ≡ false → within (span_of q) key ≡ true → within (span_of p) key ≡ false
+    outside q key above inside =
+        and_right (not (key_less key p.begin)) (key_less key p.end)
+        (le_trans p.end q.begin key above (not-true (key_less key q.begin) (and_parts (not (key_less key q.begin)) (key_less key q.end) inside).0))

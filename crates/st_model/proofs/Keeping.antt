@@ -23,7 +23,7 @@ use Rattle.st_model.proofs.Lists.{all_map}
 abbrev pub Inside : Piece → List ℕ → Type 0
 Inside piece key = within (span_of piece) key ≡ true
 
-in_part : (p : Piece) (span : Span) (key : List ℕ) → key_less span.begin p.begin ≡ false → key_less p.end span.end ≡ false
+pub in_part : (p : Piece) (span : Span) (key : List ℕ) → key_less span.begin p.begin ≡ false → key_less p.end span.end ≡ false
     → within span key ≡ true → Inside p key
 in_part p span key low high inside =
     let sides = and_parts (not (key_less key span.begin)) (key_less key span.end) inside in
@@ -150,7 +150,7 @@ release_keeps given state version spans gone r key Readable out h =
 
 -- ---- one move
 
-absent_parts : (span : Span) (phase : Phase) → is_absent (phase_in span phase) ≡ is_absent phase
+pub absent_parts : (span : Span) (phase : Phase) → is_absent (phase_in span phase) ≡ is_absent phase
 absent_parts span (Absent since) = refl
 absent_parts span (WaitPrevious since) = refl
 absent_parts span (Fetching at upto taken in_base) = refl
@@ -166,7 +166,7 @@ cut_twice P test r parts same ps all =
     (λ p span low high has h. (parts p span low high has h.0, uncut_parts test r.begin (λ s q. same s q.phase) p span low high has h.1))
     (cut_where test r.begin ps) (all_cut P test r.begin parts ps all)
 
-within_move : (P Q : Piece → Type 0) (test : Phase → Bool) (to : Phase → Phase) (r : Span) → HoldsOfParts P
+pub within_move : (P Q : Piece → Type 0) (test : Phase → Bool) (to : Phase → Phase) (r : Span) → HoldsOfParts P
     → ((span : Span) (phase : Phase) → test (phase_in span phase) ≡ test phase)
     → ((p : Piece) → P p → test p.phase ≡ true → ((key : List ℕ) → Inside p key → within r key ≡ true) → Q (record p { phase = to p.phase }))
     → ((p : Piece) → P p → ((key : List ℕ) → Inside p key → test p.phase ≡ true → within r key ≡ false) → Q p)
@@ -272,16 +272,16 @@ applied_step given state batch next counted p mid key =
     held_on above held none version under over =
         ⊎_elim
         (λ later. ⊎_elim
-        (λ before. next.takes_none version key later before)
+        (λ before. next.none_between version (λ b. holds (released_in b) key) later before)
         (λ reached. let same : batch.version ≡ version = omega arith in
-        subst (λ v. takes_away given.log v key ≡ false) same (next.takes key ∙ none))
+        subst (λ v. takes_away given.log v key ≡ false) same (next.alone (λ b. holds (released_in b) key) ∙ none))
         (cases_lt version batch.version))
         (λ earlier. held version under earlier)
         (cases_lt state.newest version)
 
     gone_on : (since : ℕ) → Lost given state batch.version (released_in batch) since key → IsGone given after since key
     gone_on since (inl h) = record {
-      taken_away = λ _. subst (λ v. takes_away given.log v key ≡ true) (sym h.0) (next.takes key ∙ h.1);
+      taken_away = λ _. subst (λ v. takes_away given.log v key ≡ true) (sym h.0) (next.alone (λ b. holds (released_in b) key) ∙ h.1);
       unavailable = λ under. absurd (omega (arith, next.above, counted.durable, h.0));
       unflown = if_both (λ flight. (state.durable ≤ flight.version) × (flight.version ≤ state.newest))
           (λ flight. (state.durable ≤ flight.version) × (flight.version ≤ state.newest))

@@ -5,10 +5,13 @@ mod Bits
 mod Commits
 mod Counts
 mod Cuts
+mod Dropped
+mod Drops
 mod Keeping
 mod Lists
 mod Lives
 mod MachineRows
+mod Moves
 mod Openings
 mod PartitionPieces
 mod PartitionPlaces

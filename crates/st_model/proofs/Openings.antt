@@ -67,7 +67,7 @@ stay_uncut key (other ∷ ends) ss h =
 abbrev IsUncutAt : List (List ℕ) → Span → Type 0
 IsUncutAt ends s = AllByRecursion (λ key. has_inside key s ≡ false) ends
 
-all_unit : (ss : List Span) → AllByRecursion (λ s. Unit {0}) ss
+pub all_unit : (ss : List Span) → AllByRecursion (λ s. Unit {0}) ss
 all_unit [] = tt
 all_unit (s ∷ ss) = (tt, all_unit ss)
 

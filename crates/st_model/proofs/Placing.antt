@@ -116,7 +116,7 @@ placed_moves state version [] ps all = all
 placed_moves state version (move ∷ moves) ps all =
     placed_moves state version moves (move_piece version ps move) (placed_move state version move ps all)
 
-parted_moves : (version : ℕ) (moves : List Move) (ps : List Piece) → IsPartition ps → IsPartition (fold (move_piece version) ps moves)
+pub parted_moves : (version : ℕ) (moves : List Move) (ps : List Piece) → IsPartition ps → IsPartition (fold (move_piece version) ps moves)
 parted_moves version [] ps parted = parted
 parted_moves version (move ∷ moves) ps parted =
     parted_moves version moves (move_piece version ps move) (partition-move_piece version ps move parted)

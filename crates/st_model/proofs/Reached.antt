@@ -1,6 +1,6 @@
 -- What holds in every state that is reached.
-use Rattle.std.proofs.Common.{◌≡◌, ℕ, ◌≤◌, Bool, true, false, not, ◌&&◌, ◌==◌, cond, nat_le, List, [], ◌∷◌, map, fold, length, take, Option, Some, None, IfSome, MatchOption, is_none, is_some, IsSome, ⊎_elim, refl, sym, ap, subst, ◌∙◌, le_refl}
-use Rattle.std.proofs.lemmas.Bool.{and_parts, or_cases, cond_both, eqb-true}
+use Rattle.std.proofs.Common.{◌≡◌, ℕ, ◌-◌, ◌<◌, ◌≤◌, Bool, true, false, not, ◌&&◌, ◌==◌, cond, nat_le, List, [], ◌∷◌, ◌++◌, map, fold, length, take, Option, Some, None, IfSome, MatchOption, is_none, is_some, IsSome, ⊎_elim, refl, sym, ap, subst, ◌∙◌, le_refl}
+use Rattle.std.proofs.lemmas.Bool.{and_parts, or_cases, cond_both, eqb-true, true≢false, both_ways, false_from_ne_true}
 use Rattle.std.specs.List.{AllByRecursion, list_any}
 use Rattle.std.specs.Option.{option_map}
 use Rattle.st_key.specs.KeyOrder.{less_le_trans}
@@ -12,20 +12,25 @@ use Rattle.st_fold.specs.declared.plan.Act.TheVariants as act
 use Rattle.st_fold.specs.declared.report.Event.{Event}
 use Rattle.st_fold.specs.declared.report.Event.TheVariants.{Opened, Applied, FetchStart, Block, Split, Began, Durable, Watched, Unwatched, Closed, Killed}
 use Rattle.st_fold.specs.declared.plan.Script.{Script}
+use Rattle.st_fold.specs.Assigned.{assigned_by}
 use Rattle.st_fold.specs.Map.{batches_to}
 use Rattle.st_fold.specs.Plain.{Rises}
 use Rattle.st_model.specs.declared.piece.Piece.{Piece}
-use Rattle.st_model.specs.Facts.{EndBelow, EndsBelow, IsCounted, IsKept, IsPlaced, IsReached, IsSoundOpening, is_assigned, span_moved}
+use Rattle.st_model.specs.declared.piece.Phase.{Phase}
+use Rattle.st_model.specs.declared.piece.Phase.TheVariants.{Absent, WaitPrevious, Fetching, Waiting, Readable}
+use Rattle.st_model.specs.Facts.{AreInStep, EndBelow, EndsBelow, IsCounted, IsIdle, IsIdleIn, IsKept, IsPlaced, IsReached, IsSoundOpening, is_assigned, is_dropped, is_gone, span_moved}
 use Rattle.st_model.specs.Partition.{piece_at, phase_at}
 use Rattle.st_model.specs.Pieces.{span_of, wants_block, wants_fetch, begins, change_at, start_piece}
-use Rattle.st_model.specs.State.{Given, Opening, State, Watch, first_state, next_batch, commit_due, commit_version, move_span, step}
+use Rattle.st_model.specs.State.{Given, Opening, State, Watch, assigned, first_state, next_batch, commit_due, commit_version, move_span, step}
 use Rattle.st_model.specs.Report.{fresh, MayOpen}
 use Rattle.st_model.specs.Trace.{due, is_at_rest, state_after, state_at}
 use Rattle.st_model.proofs.Batches.{none_to}
 use Rattle.st_model.proofs.Bits.{is_next, holds-assigned, holds-released}
 use Rattle.st_model.proofs.Commits.{PlacedAndKept, kept_watched, kept_started, kept_blocked, kept_split, kept_began, kept_ended, flown_began}
 use Rattle.st_model.proofs.Counts.{only_if, applied_is, began_is, ended_is, commit_between, by_trace, counted_first, counted_step, is_legal_to, state_then}
-use Rattle.st_model.proofs.Cuts.{all_both}
+use Rattle.st_model.proofs.Cuts.{all_both, found, found_if, of_phase}
+use Rattle.st_model.proofs.Drops.{Idle, idle_applied, idle_started, idle_blocked, idle_split, idle_began, idle_ended, idle_first, in_step_here}
+use Rattle.st_model.proofs.Dropped.{has_drop, dropped_by}
 use Rattle.st_model.proofs.Keeping.{Kept, kept_applied}
 use Rattle.st_model.proofs.Lists.{all_map}
 use Rattle.st_model.proofs.Openings.{stands_first, kept_first}
@@ -73,6 +78,7 @@ pub record Holds (given : Given) (state : State) : Type 0 where
   pub counted : IsCounted state
   pub stands : Stands state
   pub kept : AllByRecursion (Kept given state) state.pieces
+  pub idle : AllByRecursion (Idle given state.durable state.newest) state.pieces
   pub available : (key : List ℕ) → holds state.available key ≡ true → is_assigned given state.durable key ≡ true
   pub flown : IfSome state.flight (λ flight. (key : List ℕ) → holds flight.available key ≡ true → is_assigned given flight.version key ≡ true)
 
@@ -81,6 +87,7 @@ holds_first given opening sound = record {
   counted = counted_first given opening;
   stands = stands_first given opening;
   kept = kept_first given opening sound;
+  idle = idle_first given opening;
   available = sound;
   flown = tt;
 }
@@ -88,10 +95,11 @@ holds_first given opening sound = record {
 -- an event that changes pieces and watches alone
 holds_pieces : (given : Given) (state next : State) (pieces : List Piece) (watches : List Watch) → record state { pieces = pieces; watches = watches } ≡ next
     → IsCounted next → Stands next → Holds given state
-    → AllByRecursion (Kept given (record state { pieces = pieces; watches = watches })) pieces → Holds given next
-holds_pieces given state next pieces watches e counted stands h kept =
+    → AllByRecursion (Kept given (record state { pieces = pieces; watches = watches })) pieces
+    → AllByRecursion (Idle given state.durable state.newest) pieces → Holds given next
+holds_pieces given state next pieces watches e counted stands h kept idle =
     subst (λ s. IsCounted s → Stands s → Holds given s) e
-    (λ counted stands. record { counted = counted; stands = stands; kept = kept; available = h.available; flown = h.flown }) counted stands
+    (λ counted stands. record { counted = counted; stands = stands; kept = kept; idle = idle; available = h.available; flown = h.flown }) counted stands
 
 flight_is : (P : Opening → Type 0) (found : Option Opening) (flight : Opening) → found ≡ Some flight → IfSome found P → P flight
 flight_is P found flight e h = subst (λ o. IfSome o P) e h
@@ -116,6 +124,7 @@ holds_step given low rises state event next h e =
           counted = counted;
           stands = stands;
           kept = kept_applied given state is.0 (is_next given state.newest low is.0 rises is.1) h.counted both;
+          idle = idle_applied given state is.0 (is_next given state.newest low is.0 rises is.1) h.stands.parted both h.idle;
           available = h.available;
           flown = h.flown;
         }) counted stands
@@ -126,12 +135,15 @@ holds_step given low rises state event next h e =
         (ap (λ n. record state { pieces = change_at begin (λ piece. start_piece n piece ∷ []) state.pieces })
         (sym (eqb-true at state.newest tests.1)) ∙ is.1)
         counted stands h (kept_started given state begin tests.0 h.counted h.stands.parted both)
+        (idle_started given state begin tests.0 h.stands.parted both h.idle)
     steps (Block begin upto) e counted stands =
         let is = only_if _ _ next e in
         holds_pieces given state next _ state.watches is.1 counted stands h (kept_blocked given state begin upto is.0 h.stands.parted both)
+        (idle_blocked given state begin upto is.0 h.stands.parted both h.idle)
     steps (Split begin key) e counted stands =
         let is = only_if _ _ next e in
         holds_pieces given state next _ state.watches is.1 counted stands h (kept_split given state begin key is.0 h.stands.parted both)
+        (idle_split given state begin key is.0 h.stands.parted both h.idle)
     steps (Began version) e counted stands =
         let is = began_is given state version next e in
         let ends = between version is.1 in
@@ -140,6 +152,7 @@ holds_step given low rises state event next h e =
           counted = counted;
           stands = stands;
           kept = kept_began given state version ends.0 ends.1 h.stands.parted both;
+          idle = idle_began given state.durable state.newest state.pieces h.idle;
           available = h.available;
           flown = flown_began given state low version rises ends.0 ends.1 h.available h.kept;
         }) counted stands
@@ -150,16 +163,18 @@ holds_step given low rises state event next h e =
           counted = counted;
           stands = stands;
           kept = kept_ended given state is.0 is.1 h.counted both;
+          idle = idle_ended given state.durable is.0.version state.newest state.pieces
+              (flight_is (λ flight. (state.durable ≤ flight.version) × (flight.version ≤ state.newest)) state.flight is.0 is.1 h.counted.flight).0 h.idle;
           available = flight_is (λ flight. (key : List ℕ) → holds flight.available key ≡ true → is_assigned given flight.version key ≡ true)
               state.flight is.0 is.1 h.flown;
           flown = tt;
         }) counted stands
     steps (Watched number key value) e counted stands =
         let is = only_if _ _ next e in
-        holds_pieces given state next state.pieces _ is.1 counted stands h (kept_watched given state _ h.kept)
+        holds_pieces given state next state.pieces _ is.1 counted stands h (kept_watched given state _ h.kept) h.idle
     steps (Unwatched number) e counted stands =
         let is = only_if _ _ next e in
-        holds_pieces given state next state.pieces _ is.1 counted stands h (kept_watched given state _ h.kept)
+        holds_pieces given state next state.pieces _ is.1 counted stands h (kept_watched given state _ h.kept) h.idle
     steps Closed e counted stands = let same : state ≡ next = cc in subst (Holds given) same h
     steps Killed e counted stands = let same : state ≡ next = cc in subst (Holds given) same h
 
@@ -172,36 +187,77 @@ reached given opening trace state low rises sound legal =
       partition = h.stands.parted;
       placed = h.stands.placed;
       kept = h.kept;
+      idle = h.idle;
       available = h.available;
       flown = h.flown;
     }
 
 -- ---- key by key
 
--- what holds of each piece that has a key holds of the one that is found for it
-found : (P : Piece → Type 0) (ps : List Piece) (key : List ℕ) → AllByRecursion (λ p. within (span_of p) key ≡ true → P p) ps
-    → IsSome (piece_at ps key) → MatchOption (piece_at ps key) ⊥ P
-found P [] key all some = cc
-found P (p ∷ ps) key all some =
-    elim (within (span_of p) key) as (λ v. within (span_of p) key ≡ v → is_some (cond v (Some p) (piece_at ps key)) ≡ true
-    → MatchOption (cond v (Some p) (piece_at ps key)) ⊥ P)
-    [ true ↦ λ inside _. all.0 inside | false ↦ λ _ later. found P ps key all.1 later ]
-    refl some
-
 pub by_key : (given : Given) (opening : Opening) (trace : List Event) (state : State) (key : List ℕ) → Rises 0 given.log → IsSoundOpening given opening
     → state_after given opening trace ≡ Some state → key_less key (255 ∷ []) ≡ true
     → MatchOption (phase_at state.pieces key) ⊥ (λ phase. IsKept given state key phase)
 by_key given opening trace state key rises sound legal below =
     let r = reached given opening trace state 0 rises sound legal in
-    by_phase (piece_at state.pieces key)
+    of_phase (IsKept given state key) (piece_at state.pieces key)
     (found (λ p. IsKept given state key p.phase) state.pieces key
     (all_map (Kept given state) (λ p. within (span_of p) key ≡ true → IsKept given state key p.phase) (λ p kept. kept key) state.pieces r.kept)
     (partition-held state.pieces key r.partition below))
+
+-- ---- drops
+
+pub idle_by_key : (given : Given) (opening : Opening) (trace : List Event) (state : State) (key : List ℕ) → Rises 0 given.log
+    → IsSoundOpening given opening → state_after given opening trace ≡ Some state → key_less key (255 ∷ []) ≡ true
+    → MatchOption (phase_at state.pieces key) ⊥ (λ phase. IsIdleIn given state.durable state.newest key phase)
+idle_by_key given opening trace state key rises sound legal below =
+    let r = reached given opening trace state 0 rises sound legal in
+    of_phase (IsIdleIn given state.durable state.newest key) (piece_at state.pieces key)
+    (found (λ p. IsIdleIn given state.durable state.newest key p.phase) state.pieces key
+    (all_map (Idle given state.durable state.newest) (λ p. within (span_of p) key ≡ true → IsIdleIn given state.durable state.newest key p.phase)
+    (λ p idle. idle key) state.pieces r.idle)
+    (partition-held state.pieces key r.partition below))
+
+-- a key that has a piece in one of the other phases isn't dropped above the durable version
+idle_here : (given : Given) (durable newest : ℕ) (key : List ℕ) (phase : Phase) → is_gone phase ≡ false
+    → IsIdleIn given durable newest key phase → IsIdle given durable newest key
+idle_here given durable newest key (Absent since) e h = absurd (true≢false e)
+idle_here given durable newest key (WaitPrevious since) e h = absurd (true≢false e)
+idle_here given durable newest key (Fetching at upto taken in_base) e h = h
+idle_here given durable newest key (Waiting transferred) e h = h
+idle_here given durable newest key Readable e h = h
+
+pub idle_by_move : (given : Given) (opening : Opening) (trace : List Event) (state : State) (key : List ℕ) (phase : Phase)
+    (early later : List Batch) (batch : Batch) (before after : List Move) (span : Span) → Rises 0 given.log → IsSoundOpening given opening
+    → state_after given opening trace ≡ Some state → phase_at state.pieces key ≡ Some phase → is_gone phase ≡ false
+    → given.log ≡ early ++ batch ∷ later → state.durable < batch.version → batch.version ≤ state.newest
+    → batch.moves ≡ before ++ Release span ∷ after → within span key ≡ true
+    → fold (assigned_by key) (is_assigned given (batch.version - 1) key) before ≡ false
+idle_by_move given opening trace state key phase early later batch before after span rises sound legal at stays log above upto moves inside =
+    false_from_ne_true (fold (assigned_by key) (is_assigned given (batch.version - 1) key) before) (λ held.
+    both_ways (is_dropped given batch.version key)
+    (idle_here given state.durable state.newest key phase stays here batch.version above upto)
+    (dropped_by given early later batch key log
+    (has_drop key (is_assigned given (batch.version - 1) key) batch.moves
+    (record { before = before; span = span; after = after; whole = moves; is_held = held; inside = inside }))))
   where
-    by_phase : (o : Option Piece) → MatchOption o ⊥ (λ p. IsKept given state key p.phase)
-        → MatchOption (option_map (λ piece. piece.phase) o) ⊥ (λ phase. IsKept given state key phase)
-    by_phase None h = h
-    by_phase (Some p) h = h
+    here : IsIdleIn given state.durable state.newest key phase
+    here =
+        let r = reached given opening trace state 0 rises sound legal in
+        at_phase (piece_at state.pieces key) at
+        (found_if (λ p. IsIdleIn given state.durable state.newest key p.phase) state.pieces key
+        (all_map (Idle given state.durable state.newest) (λ p. within (span_of p) key ≡ true → IsIdleIn given state.durable state.newest key p.phase)
+        (λ p idle. idle key) state.pieces r.idle))
+      where
+        at_phase : (o : Option Piece) → option_map (λ piece. piece.phase) o ≡ Some phase → IfSome o (λ p. IsIdleIn given state.durable state.newest key p.phase)
+            → IsIdleIn given state.durable state.newest key phase
+        at_phase None e h = cc
+        at_phase (Some p) e h = let same : p.phase ≡ phase = cc in subst (IsIdleIn given state.durable state.newest key) same h
+
+pub in_step : (given : Given) (opening : Opening) (trace : List Event) (state : State) → Rises 0 given.log → IsSoundOpening given opening
+    → state_after given opening trace ≡ Some state → AreInStep (assigned given.own given.log state.newest) state.pieces
+in_step given opening trace state rises sound legal =
+    let r = reached given opening trace state 0 rises sound legal in
+    in_step_here given state (all_both (λ p. IsPlaced state p p.phase) (Kept given state) state.pieces r.placed r.kept)
 
 -- ---- keys that are assigned
 

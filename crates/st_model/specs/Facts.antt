@@ -1,7 +1,9 @@
 -- What holds in every state that a legal trace reaches.
-use Rattle.std.specs.Prelude.{◌≡◌, ℕ, ◌<◌, ◌≤◌, Bool, true, false, ◌&&◌, ◌==◌, nat_le, List, [], ◌∷◌, map, length, None, IfSome}
-use Rattle.std.specs.List.{AllByRecursion, list_any}
+use Rattle.std.specs.Prelude.{◌≡◌, ℕ, ◌-◌, ◌<◌, ◌≤◌, Bool, true, false, ◌&&◌, ◌||◌, ◌==◌, nat_le, not, List, [], ◌∷◌, ◌++◌, map, fold, length, None, IfSome}
+use Rattle.std.specs.List.{AllByRecursion, filter_map, list_any}
 use Rattle.st_key.specs.Spans.{Span, key_less, within, holds}
+use Rattle.st_fold.specs.Assigned.{assigned_by}
+use Rattle.st_mutation.specs.Clip.{common}
 use Rattle.st_mutation.specs.declared.batch.Batch.{Batch}
 use Rattle.st_mutation.specs.declared.batch.Move.{Move}
 use Rattle.st_mutation.specs.declared.batch.Move.TheVariants.{Assign, Release}
@@ -9,8 +11,8 @@ use Rattle.st_model.specs.declared.piece.Piece.{Piece}
 use Rattle.st_model.specs.declared.piece.Phase.{Phase}
 use Rattle.st_model.specs.declared.piece.Phase.TheVariants.{Absent, WaitPrevious, Fetching, Waiting, Readable}
 use Rattle.st_model.specs.Partition.{IsPartition}
-use Rattle.st_model.specs.Pieces.{span_of}
-use Rattle.st_model.specs.State.{Given, Opening, State, Watch, assigned, is_registered, released_in}
+use Rattle.st_model.specs.Pieces.{span_of, is_absent}
+use Rattle.st_model.specs.State.{Given, Opening, State, Watch, assigned, is_registered, move_span, released_in}
 
 -- the span that a move gives or takes away
 abbrev pub span_moved : Move → Span
@@ -25,6 +27,33 @@ is_assigned given version key = holds (assigned given.own given.log version) key
 abbrev pub takes_away : List Batch → ℕ → List ℕ → Bool
 takes_away log version key = list_any (λ batch. batch.version == version && holds (released_in batch) key) log
 
+-- Moves drop a key where one of them takes it away that is assigned just before it. Whether they do, by whether the key
+-- is assigned before them all
+abbrev pub drops : List ℕ → Bool → List Move → Bool
+drops key held [] = false
+drops key held (Assign span ∷ moves) = drops key (assigned_by key held (Assign span)) moves
+drops key held (Release span ∷ moves) = (held && within span key) || drops key (assigned_by key held (Release span)) moves
+
+-- a move among others that drops a key
+pub record HasDrop (key : List ℕ) (held : Bool) (moves : List Move) : Type 0 where
+  pub before : List Move
+  pub span : Span
+  pub after : List Move
+  pub whole : moves ≡ before ++ Release span ∷ after
+  pub is_held : fold (assigned_by key) held before ≡ true
+  pub inside : within span key ≡ true
+
+-- the keys that moves drop, as they stand in the spans that are assigned, in the order of the moves
+abbrev pub dropped : List Span → List Move → List Span
+dropped spans [] = []
+dropped spans (Assign span ∷ moves) = dropped (move_span spans (Assign span)) moves
+dropped spans (Release span ∷ moves) = filter_map (common span) spans ++ dropped (move_span spans (Release span)) moves
+
+-- whether the batch of a version drops a key
+abbrev pub is_dropped : Given → ℕ → List ℕ → Bool
+is_dropped given version key =
+    list_any (λ batch. batch.version == version && drops key (is_assigned given (version - 1) key) batch.moves) given.log
+
 -- the key is assigned at each version from one up to another
 abbrev pub StaysAssigned : Given → (from upto : ℕ) → List ℕ → Type 0
 StaysAssigned given from upto key = (version : ℕ) → from ≤ version → version ≤ upto → is_assigned given version key ≡ true
@@ -32,6 +61,59 @@ StaysAssigned given from upto key = (version : ℕ) → from ≤ version → ver
 -- no batch above a version and up to another takes the key away
 abbrev pub StaysHeld : Given → (above upto : ℕ) → List ℕ → Type 0
 StaysHeld given above upto key = (version : ℕ) → above < version → version ≤ upto → takes_away given.log version key ≡ false
+
+-- no batch above a version and up to another drops the key
+abbrev pub IsIdle : Given → (above upto : ℕ) → List ℕ → Type 0
+IsIdle given above upto key = (version : ℕ) → above < version → version ≤ upto → is_dropped given version key ≡ false
+
+-- the spans have each key of the pieces just where its piece isn't absent
+abbrev pub AreInStep : List Span → List Piece → Type 0
+AreInStep spans pieces =
+    AllByRecursion (λ piece. (key : List ℕ) → within (span_of piece) key ≡ true → holds spans key ≡ not (is_absent piece.phase)) pieces
+
+-- the phase of a key that is gone since a version, by whether it is assigned again
+abbrev pub gone : ℕ → Bool → Phase
+gone since true = WaitPrevious since
+gone since false = Absent since
+
+-- the phase of a part of a fetched piece: of a key in it each end tells the same
+pub record IsFetchedPart (key : List ℕ) (at : ℕ) (upto taken in_base : List ℕ) (phase : Phase) : Type 0 where
+  pub upto_here : List ℕ
+  pub taken_here : List ℕ
+  pub in_base_here : List ℕ
+  pub is : phase ≡ Fetching at upto_here taken_here in_base_here
+  pub is_fetched : key_less key upto_here ≡ key_less key upto
+  pub is_taken : key_less key taken_here ≡ key_less key taken
+  pub is_in_base : key_less key in_base_here ≡ key_less key in_base
+
+-- What the moves of the batch of a version make of the phase at a key, by whether they drop it, and whether it is assigned
+-- behind them: one that they drop is gone since this version, and any other is as it was, but waits where it is assigned
+abbrev pub IsMoved : (version : ℕ) → (dropped held : Bool) → List ℕ → (before after : Phase) → Type 0
+IsMoved version true held key before after = after ≡ gone version held
+IsMoved version false held key (Absent since) after = after ≡ gone since held
+IsMoved version false held key (WaitPrevious since) after = after ≡ WaitPrevious since
+IsMoved version false held key (Fetching at upto taken in_base) after = IsFetchedPart key at upto taken in_base after
+IsMoved version false held key (Waiting transferred) after = after ≡ Waiting transferred
+IsMoved version false held key Readable after = after ≡ Readable
+
+-- the key isn't the server's, or waits to be fetched
+abbrev pub is_gone : Phase → Bool
+is_gone (Absent since) = true
+is_gone (WaitPrevious since) = true
+is_gone (Fetching at upto taken in_base) = false
+is_gone (Waiting transferred) = false
+is_gone Readable = false
+
+-- The drops of a key in a piece of this phase. Where it is gone since a version, none is above that one, and where that
+-- isn't durable, its batch drops the key. In the other phases none is above the durable version
+abbrev pub IsIdleIn : Given → (durable newest : ℕ) → List ℕ → Phase → Type 0
+IsIdleIn given durable newest key (Absent since) =
+    (durable < since → is_dropped given since key ≡ true) × IsIdle given since newest key
+IsIdleIn given durable newest key (WaitPrevious since) =
+    (durable < since → is_dropped given since key ≡ true) × IsIdle given since newest key
+IsIdleIn given durable newest key (Fetching at upto taken in_base) = IsIdle given durable newest key
+IsIdleIn given durable newest key (Waiting transferred) = IsIdle given durable newest key
+IsIdleIn given durable newest key Readable = IsIdle given durable newest key
 
 -- where a commit is in flight, it doesn't hold the key
 abbrev pub IsUnflown : State → List ℕ → Type 0
@@ -115,6 +197,7 @@ pub record IsReached (given : Given) (state : State) : Type 0 where
   pub placed : AllByRecursion (λ piece. IsPlaced state piece piece.phase) state.pieces
   -- each key of each piece
   pub kept : AllByRecursion (λ piece. (key : List ℕ) → within (span_of piece) key ≡ true → IsKept given state key piece.phase) state.pieces
+  pub idle : AllByRecursion (λ piece. (key : List ℕ) → within (span_of piece) key ≡ true → IsIdleIn given state.durable state.newest key piece.phase) state.pieces
   pub available : (key : List ℕ) → holds state.available key ≡ true → is_assigned given state.durable key ≡ true
   pub flown : IfSome state.flight (λ flight. (key : List ℕ) → holds flight.available key ≡ true → is_assigned given flight.version key ≡ true)
 

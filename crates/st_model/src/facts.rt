@@ -1,19 +1,22 @@
 //! Facts of every state that a legal trace reaches.
-ghost use Rattle.std.specs.Prelude.{◌≡◌, ◌≤◌, ℕ, List, None, Some, is_none, IfSome, IsSome, IsTrue, MatchOption, true, length};
+ghost use Rattle.std.specs.Prelude.{◌≡◌, ◌<◌, ◌≤◌, ◌-◌, ◌∷◌, ◌++◌, ℕ, Bool, List, None, Some, fold, is_none, IfSome, IsSome, IsTrue, MatchOption, false, true, length};
 ghost use Rattle.std.specs.List.{AllByRecursion};
-ghost use Rattle.st_key.specs.Spans.{Span, all_keys, holds, key_less};
+ghost use Rattle.st_key.specs.Spans.{Span, all_keys, holds, key_less, within};
 ghost use Rattle.st_fold.specs.declared.plan.Act.{Act};
 ghost use Rattle.st_fold.specs.declared.plan.Script.{Script};
 ghost use Rattle.st_fold.specs.declared.report.Event.{Event};
-ghost use Rattle.st_fold.specs.Assigned.{is_assigned as is_left};
+ghost use Rattle.st_fold.specs.Assigned.{assigned_by, is_assigned as is_left};
 ghost use Rattle.st_fold.specs.Plain.{Rises};
 ghost use Rattle.st_mutation.specs.declared.batch.Batch.{Batch};
+ghost use Rattle.st_mutation.specs.declared.batch.Move.{Move};
+ghost use Rattle.st_mutation.specs.declared.batch.Move.TheVariants.{Release};
+ghost use Rattle.st_model.specs.declared.piece.Phase.{Phase};
 ghost use Rattle.st_model.specs.declared.piece.Piece.{Piece};
-ghost use Rattle.st_model.specs.Facts.{AreWatched, EndsBelow, is_assigned, IsCounted, IsKept, IsPlaced, IsReached, IsSoundOpening, NeverFell};
+ghost use Rattle.st_model.specs.Facts.{AreInStep, AreWatched, EndsBelow, HasDrop, drops, dropped, is_assigned, is_dropped, is_gone, IsCounted, IsIdleIn, IsKept, IsMoved, IsPlaced, IsReached, IsSoundOpening, NeverFell};
 ghost use Rattle.st_model.specs.Partition.{IsPartition, phase_at};
-ghost use Rattle.st_model.specs.Pieces.{wants_block};
+ghost use Rattle.st_model.specs.Pieces.{move_piece, wants_block};
 ghost use Rattle.st_model.specs.Report.{fresh, MayOpen};
-ghost use Rattle.st_model.specs.State.{assigned, Given, Opening, State, step};
+ghost use Rattle.st_model.specs.State.{assigned, Given, move_span, next_batch, Opening, State, step};
 ghost use Rattle.st_model.specs.Trace.{due, event_by, is_at_rest, IsFetchOf, makes, state_after, state_at};
 
 /// The oldest version is the durable one and not above the newest, and that of a flight lies between them.
@@ -79,6 +82,60 @@ pub fn reached_keys_are_in_their_phases()
     ensures { (given : Given) (opening : Opening) (trace : List Event) (state : State) (key : List ℕ) → Rises 0 given.log
         → IsSoundOpening given opening → state_after given opening trace ≡ Some state → IsTrue (key_less key all_keys.end)
         → MatchOption (phase_at state.pieces key) ⊥ (λ phase. IsKept given state key phase) }
+{}
+
+/// In such a state no batch above the durable version drops a key that is fetched, was sent, or is served: none of its moves
+/// takes the key away that is assigned just before it. One that is absent, or waits to be fetched, was dropped by no batch
+/// above the version since which it is gone, and where that isn't durable, by the batch of that version.
+pub fn reached_keys_are_idle()
+    ensures phases { (given : Given) (opening : Opening) (trace : List Event) (state : State) (key : List ℕ) → Rises 0 given.log
+        → IsSoundOpening given opening → state_after given opening trace ≡ Some state → IsTrue (key_less key all_keys.end)
+        → MatchOption (phase_at state.pieces key) ⊥ (λ phase. IsIdleIn given state.durable state.newest key phase) }
+    ensures moves { (given : Given) (opening : Opening) (trace : List Event) (state : State) (key : List ℕ) (phase : Phase)
+        (early later : List Batch) (batch : Batch) (before after : List Move) (span : Span) → Rises 0 given.log
+        → IsSoundOpening given opening → state_after given opening trace ≡ Some state
+        → phase_at state.pieces key ≡ Some phase → is_gone phase ≡ false
+        → given.log ≡ early ++ batch ∷ later → state.durable < batch.version → batch.version ≤ state.newest
+        → batch.moves ≡ before ++ Release span ∷ after → IsTrue (within span key)
+        → fold (assigned_by key) (is_assigned given (batch.version - 1) key) before ≡ false }
+{}
+
+/// In such a state a key is assigned exactly where its piece isn't absent.
+pub fn all_but_absent_keys_are_assigned()
+    ensures { (given : Given) (opening : Opening) (trace : List Event) (state : State) → Rises 0 given.log
+        → IsSoundOpening given opening → state_after given opening trace ≡ Some state
+        → AreInStep (assigned given.own given.log state.newest) state.pieces }
+{}
+
+/// That stays so move by move. What the moves of a batch drop is gone since its version, and what they don't drop is as it
+/// was: only an absent key that they leave assigned begins to wait.
+pub fn moves_keep_in_step()
+    ensures step { (version : ℕ) (spans : List Span) (pieces : List Piece) (move : Move) → AreInStep spans pieces
+        → AreInStep (move_span spans move) (move_piece version pieces move) }
+    ensures phases { (version : ℕ) (spans : List Span) (pieces : List Piece) (moves : List Move) (key : List ℕ) (before : Phase)
+        → IsPartition pieces → AreInStep spans pieces → IsTrue (key_less key all_keys.end) → phase_at pieces key ≡ Some before
+        → MatchOption (phase_at (fold (move_piece version) pieces moves) key) ⊥
+        (λ after. IsMoved version (drops key (holds spans key) moves) (holds (fold move_span spans moves) key) key before after) }
+{}
+
+/// Moves drop a key where one of them takes it away that is assigned just before it, and the spans that they drop have just
+/// these keys.
+pub fn drops_are_of_each_key()
+    ensures of_moves { (key : List ℕ) (held : Bool) (moves : List Move) → drops key held moves ≡ true → HasDrop key held moves }
+    ensures by_moves { (key : List ℕ) (held : Bool) (moves : List Move) → HasDrop key held moves → drops key held moves ≡ true }
+    ensures spans { (spans : List Span) (moves : List Move) (key : List ℕ)
+        → holds (dropped spans moves) key ≡ drops key (holds spans key) moves }
+{}
+
+/// The batch that comes next drops just the keys that its moves drop of those that are assigned at the newest version, and
+/// up to its version there is no other drop.
+pub fn next_batch_drops_by_its_moves()
+    ensures next { (given : Given) (state : State) (batch : Batch) (key : List ℕ) → Rises 0 given.log
+        → next_batch given state ≡ Some batch
+        → is_dropped given batch.version key ≡ drops key (is_assigned given state.newest key) batch.moves }
+    ensures none_between { (given : Given) (state : State) (batch : Batch) (version : ℕ) (key : List ℕ) → Rises 0 given.log
+        → next_batch given state ≡ Some batch → state.newest < version → version < batch.version
+        → is_dropped given version key ≡ false }
 {}
 
 /// The list of what is assigned has just the keys that the moves of the log leave to the server.

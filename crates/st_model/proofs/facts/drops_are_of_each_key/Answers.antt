@@ -1,0 +1,5 @@
+use Rattle.st_model.proofs.Dropped.{drop_of, has_drop, dropped_keys}
+use Rattle.st_model.proofs.facts.drops_are_of_each_key.Goals as goal
+
+pub returns : goal.returns
+returns c = record { of_moves = drop_of; by_moves = has_drop; spans = dropped_keys }

@@ -2,10 +2,11 @@
 use Rattle.std.proofs.Common.{◌≡◌, ℕ, Bool, true, false, not, ◌&&◌, ◌||◌, List, [], ◌∷◌, refl, sym, ◌∙◌, inl, inr}
 use Rattle.std.proofs.lemmas.Bool.{and_parts, and_from, and_cases, or_cases, or_left, or_right, or_from, or_parts, not-true, not-false, not_from_false, cases_Bool}
 use Rattle.std.specs.List.{list_any}
+use Rattle.st_key.specs.Forms.{first}
 use Rattle.st_key.specs.KeyOrder.{less_irrefl, less_trans, less_asym, less_le_trans}
 use Rattle.st_key.specs.Parts.{has_all}
 use Rattle.st_key.specs.Spans.{Span, key_less, within, holds, is_canonical, Covers, Misses}
-use Rattle.st_key.proofs.Canonical.{first, held_above, end_is_free}
+use Rattle.st_key.proofs.Canonical.{held_above, end_is_free}
 
 pub covers_from : (ps : List Span) (r : Span) → list_any (λ s. has_all r.begin r.end s) ps ≡ true → Covers ps r
 covers_from [] r h k in_r = cc

@@ -2,10 +2,10 @@
 use Rattle.std.proofs.Common.{◌≡◌, ℕ, zero, suc, ◌+◌, ◌<◌, arith, drop-cons, get_or, length, Bool, true, false, cond, not, ◌&&◌, ◌||◌, List, [], ◌∷◌, drop, refl, sym, ap, subst, ◌∙◌, inl, inr}
 use Rattle.std.proofs.lemmas.Bool.{and_parts, and_from, or_left, or_right, or_from, both_ways, true_from_ne_false, or_cases}
 use Rattle.std.specs.List.{list_all, prefix_len}
+use Rattle.st_key.specs.Forms.{above_less, all_above, first}
 use Rattle.st_key.specs.KeyOrder.{less_irrefl, less_trans, less_asym, less_le_trans}
 use Rattle.st_key.specs.Parts.{begins_by, ending_from, has_all, lies_in}
 use Rattle.st_key.specs.Spans.{Span, IsSubset, key_less, within, holds, is_canonical}
-use Rattle.st_key.proofs.Canonical.{above_less, all_above, first}
 use Rattle.st_key.proofs.Cover.{covers_from, misses_from}
 
 -- lists whose spans all lie in others have their keys

@@ -63,6 +63,7 @@ impl Ranges {
 
     /// Puts the keys of `r` into the set. Takes time linear in the number of pieces.
     pub fn add(&mut self, r: &Range) -> Result<(), AllocError>
+        ensures value { OnOk result (self.new ≡ with_span self.old r.now) }
         ensures ok { OnOk result ((key : List ℕ)
             → holds self.new key ≡ (holds self.old key || within r.now key)) }
         ensures canonical { IsTrue (is_canonical self.new) }
@@ -74,6 +75,7 @@ impl Ranges {
 
     /// Takes the keys of `r` out of the set. Takes time linear in the number of pieces.
     pub fn remove(&mut self, r: &Range) -> Result<(), AllocError>
+        ensures value { OnOk result (self.new ≡ without_span self.old r.now) }
         ensures ok { OnOk result ((key : List ℕ)
             → holds self.new key ≡ (holds self.old key && not (within r.now key))) }
         ensures canonical { IsTrue (is_canonical self.new) }

@@ -11,7 +11,7 @@ mod tests;
 
 pub use key_range::{Inverted, Range};
 pub use key_set::Ranges;
-pub use laws::{key_order, next_key, one_canonical_form};
+pub use laws::{key_order, next_key, one_canonical_form, spans_are_put_in_and_taken_out};
 pub use part::MetaPart;
 pub use stored::{
     Key, KeyRefusal, MAX_END_KEY_LEN, MAX_KEY_LEN, MAX_VALUE_LEN, Value, ValueRefusal, key_after,

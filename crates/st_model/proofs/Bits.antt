@@ -4,7 +4,7 @@ use Rattle.std.proofs.lemmas.Bool.{cond_both, cond-true, cond-false, or_cases, o
 use Rattle.std.proofs.lemmas.List.Folds.{list_any-append}
 use Rattle.std.proofs.lemmas.List.Sums.{fold-append}
 use Rattle.std.specs.List.{AllByRecursion, flat_map, list_any}
-use Rattle.st_key.proofs.Members.{holds-with_span, holds-without_span}
+use Rattle.st_key.specs.Members.{holds-with_span, holds-without_span}
 use Rattle.st_key.specs.Parts.{with_span, without_span}
 use Rattle.st_key.specs.Spans.{Span, within, holds}
 use Rattle.st_mutation.specs.declared.batch.Batch.{Batch}

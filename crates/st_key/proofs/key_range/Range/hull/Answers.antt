@@ -1,4 +1,4 @@
-use Rattle.st_key.proofs.Canonical.{hull_filled}
+use Rattle.st_key.specs.Forms.{hull_filled}
 use Rattle.st_key.proofs.key_range.Range.hull.Goals as goal
 
 pub invariant_of-result : goal.invariant_of-result

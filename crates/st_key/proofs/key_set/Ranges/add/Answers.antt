@@ -1,5 +1,5 @@
-use Rattle.st_key.proofs.Canonical.{canonical-with_span}
-use Rattle.st_key.proofs.Members.{holds-with_span}
+use Rattle.st_key.specs.Forms.{canonical-with_span}
+use Rattle.st_key.specs.Members.{holds-with_span}
 use Rattle.st_key.proofs.key_set.Ranges.add.Goals as goal
 
 pub invariant_of-self : goal.invariant_of-self

@@ -1,5 +1,5 @@
-use Rattle.st_key.proofs.Canonical.{canonical-without_span}
-use Rattle.st_key.proofs.Members.{holds-without_span}
+use Rattle.st_key.specs.Forms.{canonical-without_span}
+use Rattle.st_key.specs.Members.{holds-without_span}
 use Rattle.st_key.proofs.key_set.Ranges.remove.Goals as goal
 
 pub invariant_of-self : goal.invariant_of-self

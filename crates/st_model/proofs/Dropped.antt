@@ -6,11 +6,12 @@ use Rattle.std.specs.List.{cons_option, filter_map, list_any}
 use Rattle.std.specs.Option.{option_map, option_map_or}
 use Rattle.st_key.specs.Spans.{Span, within, holds}
 use Rattle.st_fold.specs.Assigned.{assigned_by}
-use Rattle.st_mutation.proofs.Parts.{inside_part, outside_part}
-use Rattle.st_mutation.specs.Clip.{common, value_by_part}
+use Rattle.st_mutation.specs.Clip.{clipped, common, value_by_part}
+use Rattle.st_mutation.specs.Effect.{value_by}
 use Rattle.st_mutation.specs.declared.batch.Batch.{Batch}
 use Rattle.st_mutation.specs.declared.batch.Move.{Move}
 use Rattle.st_mutation.specs.declared.batch.Move.TheVariants.{Assign, Release}
+use Rattle.st_mutation.specs.declared.batch.Mutation.{Mutation}
 use Rattle.st_mutation.specs.declared.batch.Mutation.TheVariants.{Clear}
 use Rattle.st_model.specs.Facts.{HasDrop, drops, dropped, is_assigned, is_dropped}
 use Rattle.st_model.specs.State.{Given, move_span}
@@ -66,53 +67,58 @@ dropped_by given early later batch key log does =
 
 -- ---- the spans that moves drop
 
--- a key is in what two spans have in common exactly where it is in both
-within_common : (span to : Span) (key : List ℕ) → option_map_or (λ s. within s key) (common span to) false ≡ (within to key && within span key)
-within_common span to key =
-    told (common span to)
-    ∙ elim (within to key) as (λ v. within to key ≡ v
-    → is_none (value_by_part key (Some []) (option_map Clear (common span to))) ≡ (v && within span key)) [
-      | true ↦ λ inside. ap is_none (inside_part (Clear span) to key (Some []) inside) ∙ sym (by_test (within span key))
-      | false ↦ λ outside. ap is_none (outside_part (Clear span) to key (Some []) outside)
-    ]
-    refl
-  where
-    -- what is left of the empty value
-    clear_where : Bool → Option (List ℕ)
-    clear_where test = if test then None else Some []
+-- from what the part of a mutation inside a span does to a key
+module _ (inside_part : (mutation : Mutation) (to : Span) (key : List ℕ) (before : Option (List ℕ)) → within to key ≡ true
+    → value_by_part key before (clipped mutation to) ≡ value_by key before mutation)
+    (outside_part : (mutation : Mutation) (to : Span) (key : List ℕ) (before : Option (List ℕ)) → within to key ≡ false
+    → value_by_part key before (clipped mutation to) ≡ before) where
+  -- a key is in what two spans have in common exactly where it is in both
+  within_common : (span to : Span) (key : List ℕ) → option_map_or (λ s. within s key) (common span to) false ≡ (within to key && within span key)
+  within_common span to key =
+      told (common span to)
+      ∙ elim (within to key) as (λ v. within to key ≡ v
+      → is_none (value_by_part key (Some []) (option_map Clear (common span to))) ≡ (v && within span key)) [
+        | true ↦ λ inside. ap is_none (inside_part (Clear span) to key (Some []) inside) ∙ sym (by_test (within span key))
+        | false ↦ λ outside. ap is_none (outside_part (Clear span) to key (Some []) outside)
+      ]
+      refl
+    where
+      -- what is left of the empty value
+      clear_where : Bool → Option (List ℕ)
+      clear_where test = if test then None else Some []
 
-    by_test : (test : Bool) → test ≡ is_none (clear_where test)
-    by_test true = refl
-    by_test false = refl
+      by_test : (test : Bool) → test ≡ is_none (clear_where test)
+      by_test true = refl
+      by_test false = refl
 
-    -- by what a clear of it leaves
-    told : (part : Option Span) → option_map_or (λ s. within s key) part false ≡ is_none (value_by_part key (Some []) (option_map Clear part))
-    told None = refl
-    told (Some s) = by_test (within s key)
+      -- by what a clear of it leaves
+      told : (part : Option Span) → option_map_or (λ s. within s key) part false ≡ is_none (value_by_part key (Some []) (option_map Clear part))
+      told None = refl
+      told (Some s) = by_test (within s key)
 
-holds_common : (span : Span) (spans : List Span) (key : List ℕ) → holds (filter_map (common span) spans) key ≡ (holds spans key && within span key)
-holds_common span [] key = refl
-holds_common span (to ∷ spans) key =
-    put_in (common span to) (filter_map (common span) spans)
-    ∙ ap₂ (λ x y. x || y) (within_common span to key) (holds_common span spans key)
-    ∙ either (within to key) (holds spans key) (within span key)
-  where
-    put_in : (part : Option Span) (parts : List Span) → holds (cons_option part parts) key ≡ (option_map_or (λ s. within s key) part false || holds parts key)
-    put_in None parts = refl
-    put_in (Some s) parts = refl
+  holds_common : (span : Span) (spans : List Span) (key : List ℕ) → holds (filter_map (common span) spans) key ≡ (holds spans key && within span key)
+  holds_common span [] key = refl
+  holds_common span (to ∷ spans) key =
+      put_in (common span to) (filter_map (common span) spans)
+      ∙ ap₂ (λ x y. x || y) (within_common span to key) (holds_common span spans key)
+      ∙ either (within to key) (holds spans key) (within span key)
+    where
+      put_in : (part : Option Span) (parts : List Span) → holds (cons_option part parts) key ≡ (option_map_or (λ s. within s key) part false || holds parts key)
+      put_in None parts = refl
+      put_in (Some s) parts = refl
 
-    either : (x y z : Bool) → ((x && z) || (y && z)) ≡ ((x || y) && z)
-    either true true true = refl
-    either true true false = refl
-    either true false true = refl
-    either true false false = refl
-    either false y z = refl
+      either : (x y z : Bool) → ((x && z) || (y && z)) ≡ ((x || y) && z)
+      either true true true = refl
+      either true true false = refl
+      either true false true = refl
+      either true false false = refl
+      either false y z = refl
 
-pub dropped_keys : (spans : List Span) (moves : List Move) (key : List ℕ) → holds (dropped spans moves) key ≡ drops key (holds spans key) moves
-dropped_keys spans [] key = refl
-dropped_keys spans (Assign span ∷ moves) key =
-    dropped_keys (move_span spans (Assign span)) moves key ∙ ap (λ held. drops key held moves) (holds-assigned spans span key)
-dropped_keys spans (Release span ∷ moves) key =
-    holds-append (filter_map (common span) spans) (dropped (move_span spans (Release span)) moves) key
-    ∙ ap₂ (λ x y. x || y) (holds_common span spans key)
-    (dropped_keys (move_span spans (Release span)) moves key ∙ ap (λ held. drops key held moves) (holds-released spans span key))
+  pub dropped_keys : (spans : List Span) (moves : List Move) (key : List ℕ) → holds (dropped spans moves) key ≡ drops key (holds spans key) moves
+  dropped_keys spans [] key = refl
+  dropped_keys spans (Assign span ∷ moves) key =
+      dropped_keys (move_span spans (Assign span)) moves key ∙ ap (λ held. drops key held moves) (holds-assigned spans span key)
+  dropped_keys spans (Release span ∷ moves) key =
+      holds-append (filter_map (common span) spans) (dropped (move_span spans (Release span)) moves) key
+      ∙ ap₂ (λ x y. x || y) (holds_common span spans key)
+      (dropped_keys (move_span spans (Release span)) moves key ∙ ap (λ held. drops key held moves) (holds-released spans span key))

@@ -7,6 +7,7 @@ mod Counts
 mod Cuts
 mod Dropped
 mod Drops
+mod Forms
 mod Keeping
 mod Lists
 mod Lives

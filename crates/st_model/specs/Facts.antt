@@ -1,7 +1,7 @@
 -- What holds in every state that a legal trace reaches.
 use Rattle.std.specs.Prelude.{◌≡◌, ℕ, ◌-◌, ◌<◌, ◌≤◌, Bool, true, false, ◌&&◌, ◌||◌, ◌==◌, nat_le, not, List, [], ◌∷◌, ◌++◌, map, fold, length, None, IfSome}
 use Rattle.std.specs.List.{AllByRecursion, filter_map, list_any}
-use Rattle.st_key.specs.Spans.{Span, key_less, within, holds}
+use Rattle.st_key.specs.Spans.{Span, is_canonical, key_less, within, holds}
 use Rattle.st_fold.specs.Assigned.{assigned_by}
 use Rattle.st_mutation.specs.Clip.{common}
 use Rattle.st_mutation.specs.declared.batch.Batch.{Batch}
@@ -212,3 +212,15 @@ pub record EndsBelow (given : Given) : Type 0 where
 -- what a life may open with: keys that are assigned at its version
 abbrev pub IsSoundOpening : Given → Opening → Type 0
 IsSoundOpening given opening = (key : List ℕ) → holds opening.available key ≡ true → is_assigned given opening.version key ≡ true
+
+-- the keys that the server owns at first are in canonical form, and every range that a batch moves has a key
+pub record AreRanges (given : Given) : Type 0 where
+  pub own : is_canonical given.own ≡ true
+  pub moves : AllByRecursion (λ batch. AllByRecursion (λ span. key_less span.begin span.end ≡ true) (map span_moved batch.moves)) given.log
+
+-- what is assigned at the newest version, what is available, and what will be so with the commit in flight are in
+-- canonical form
+pub record IsCanonical (given : Given) (state : State) : Type 0 where
+  pub assigned : is_canonical (assigned given.own given.log state.newest) ≡ true
+  pub available : is_canonical state.available ≡ true
+  pub flown : IfSome state.flight (λ flight. is_canonical flight.available ≡ true)

@@ -1,7 +1,7 @@
 //! Facts of every state that a legal trace reaches.
 ghost use Rattle.std.specs.Prelude.{◌≡◌, ◌<◌, ◌≤◌, ◌-◌, ◌∷◌, ◌++◌, ℕ, Bool, List, None, Some, fold, is_none, IfSome, IsSome, IsTrue, MatchOption, false, true, length};
 ghost use Rattle.std.specs.List.{AllByRecursion};
-ghost use Rattle.st_key.specs.Spans.{Span, all_keys, holds, key_less, within};
+ghost use Rattle.st_key.specs.Spans.{Span, all_keys, holds, is_canonical, key_less, within};
 ghost use Rattle.st_fold.specs.declared.plan.Act.{Act};
 ghost use Rattle.st_fold.specs.declared.plan.Script.{Script};
 ghost use Rattle.st_fold.specs.declared.report.Event.{Event};
@@ -12,7 +12,7 @@ ghost use Rattle.st_mutation.specs.declared.batch.Move.{Move};
 ghost use Rattle.st_mutation.specs.declared.batch.Move.TheVariants.{Release};
 ghost use Rattle.st_model.specs.declared.piece.Phase.{Phase};
 ghost use Rattle.st_model.specs.declared.piece.Piece.{Piece};
-ghost use Rattle.st_model.specs.Facts.{AreInStep, AreWatched, EndsBelow, HasDrop, drops, dropped, is_assigned, is_dropped, is_gone, IsCounted, IsIdleIn, IsKept, IsMoved, IsPlaced, IsReached, IsSoundOpening, NeverFell};
+ghost use Rattle.st_model.specs.Facts.{AreInStep, AreRanges, AreWatched, EndsBelow, HasDrop, drops, dropped, is_assigned, is_dropped, is_gone, IsCanonical, IsCounted, IsIdleIn, IsKept, IsMoved, IsPlaced, IsReached, IsSoundOpening, NeverFell};
 ghost use Rattle.st_model.specs.Partition.{IsPartition, phase_at};
 ghost use Rattle.st_model.specs.Pieces.{move_piece, wants_block};
 ghost use Rattle.st_model.specs.Report.{fresh, MayOpen};
@@ -125,7 +125,9 @@ pub fn drops_are_of_each_key()
     ensures by_moves { (key : List ℕ) (held : Bool) (moves : List Move) → HasDrop key held moves → drops key held moves ≡ true }
     ensures spans { (spans : List Span) (moves : List Move) (key : List ℕ)
         → holds (dropped spans moves) key ≡ drops key (holds spans key) moves }
-{}
+{
+    st_mutation::clip_is_the_part_inside();
+}
 
 /// The batch that comes next drops just the keys that its moves drop of those that are assigned at the newest version, and
 /// up to its version there is no other drop.
@@ -156,4 +158,17 @@ pub fn openings_are_sound()
         → IsSoundOpening given (fresh script) }
     ensures next { (given : Given) (opening next : Opening) (trace : List Event) → Rises 0 given.log
         → IsSoundOpening given opening → MayOpen (state_after given opening trace) next → IsSoundOpening given next }
+{}
+
+/// What is assigned, what is available and what will be so with a commit in flight are in canonical form in every state that
+/// a legal trace reaches, and so is what the next life opens with. It takes that the first keys and those of the opening
+/// are so, and that each range that moves has a key.
+pub fn reached_keys_are_in_canonical_form()
+    ensures assigned { (given : Given) (version : ℕ) → AreRanges given
+        → IsTrue (is_canonical (assigned given.own given.log version)) }
+    ensures last { (given : Given) (opening : Opening) (trace : List Event) (state : State) → AreRanges given
+        → IsTrue (is_canonical opening.available) → state_after given opening trace ≡ Some state → IsCanonical given state }
+    ensures next { (given : Given) (opening next : Opening) (trace : List Event) → AreRanges given
+        → IsTrue (is_canonical opening.available) → MayOpen (state_after given opening trace) next
+        → IsTrue (is_canonical next.available) }
 {}

@@ -13,9 +13,9 @@ pub use facts::{
     acts_make_steps, all_but_absent_keys_are_assigned, assigned_keys_are_below_ff,
     assignment_is_of_each_key, drops_are_of_each_key, moves_keep_in_step,
     next_batch_drops_by_its_moves, openings_are_sound, pieces_stay_in_order, reached_keys_are_idle,
-    reached_keys_are_in_their_phases, reached_states_keep_the_facts, rest_is_nothing_due,
-    traces_are_legal_to_each_place, versions_are_in_order, versions_never_fall,
-    watches_stay_within_their_limit,
+    reached_keys_are_in_canonical_form, reached_keys_are_in_their_phases,
+    reached_states_keep_the_facts, rest_is_nothing_due, traces_are_legal_to_each_place,
+    versions_are_in_order, versions_never_fall, watches_stay_within_their_limit,
 };
 pub use laws::{
     acts_soundly, begins_soundly, closed_is_a_life, closed_life_is_demanded, faulted_is_a_life,

@@ -9,7 +9,7 @@ use Rattle.st_atomic.specs.Atomic.{changed}
 use Rattle.st_atomic.specs.declared.AtomicOp.{AtomicOp}
 use Rattle.st_atomic.specs.declared.AtomicOp.TheVariants.{Add, And, Or, Xor, Max, Min, ByteMin, ByteMax, AppendIfFits, CompareAndClear}
 use Rattle.st_fold.specs.Reading.{span_of_key}
-use Rattle.st_fold.proofs.Values.{equal_bytes}
+use Rattle.st_fold.specs.Effects.{equal_bytes}
 use Rattle.st_key.specs.KeyOrder.{alone_after, less_after, less_irrefl}
 use Rattle.st_key.specs.Spans.{key_less, within}
 use Rattle.st_mutation.specs.declared.batch.Batch.{Batch}

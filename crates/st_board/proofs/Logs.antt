@@ -7,7 +7,7 @@ use Rattle.std.specs.List.{find}
 use Rattle.st_mutation.specs.declared.batch.Batch.{Batch}
 use Rattle.st_fold.specs.Map.{apply_batch, batches_to, folded, value_at}
 use Rattle.st_fold.specs.Plain.{Rises}
-use Rattle.st_fold.proofs.Values.{after_all}
+use Rattle.st_fold.specs.Effects.{after_all}
 use Rattle.st_mutation.specs.Effect.{value_by}
 use Rattle.st_board.specs.Values.{value_of}
 

@@ -1,4 +1,3 @@
 pub mod Pairs
 pub mod Rows
 pub mod Taken
-pub mod Values

@@ -1,6 +1,6 @@
 use Rattle.std.proofs.Common.{◌≡◌, drop, fold}
 use Rattle.st_fold.specs.Map.{batches_to, folded, value_at}
-use Rattle.st_fold.proofs.Values.{value_by_batch}
+use Rattle.st_mutation.specs.Effect.{value_by_batch}
 use Rattle.st_fold.proofs.value.value_to.Given as goal
 
 -- the batches that are left lead to the value in the fold of all

@@ -1,4 +1,4 @@
--- The value of one key in a map that mutations change.
+-- The value of one key in a map that mutations change: they make of it what they make of the key's value by itself.
 use Rattle.std.proofs.Common.{◌≡◌, ◌∙◌, ℕ, Bool, true, false, cond, not, List, [], ◌∷◌, fold, filter, refl, sym, ap}
 use Rattle.std.specs.Prelude.{Option, Some, None, bytes_eq}
 use Rattle.std.specs.Ordering.{nat_cmp}
@@ -7,17 +7,17 @@ use Rattle.std.specs.FinMap.Entries.{find-put, find-where_key}
 use Rattle.std.proofs.lemmas.Cmp.{nat_list_cmp_total}
 use Rattle.std.proofs.lemmas.Map.Text.{is_eq-slice_cmp}
 use Rattle.std.proofs.lemmas.Map.Lookups.{exact_bytes}
+use Rattle.std.proofs.lemmas.Slice.Eq.{bytes_eq-Decides}
 use Rattle.st_mutation.specs.declared.batch.Batch.{Batch}
 use Rattle.st_mutation.specs.declared.batch.Mutation.{Mutation}
 use Rattle.st_mutation.specs.declared.batch.Mutation.TheVariants.{Set, Clear, Atomic}
-use Rattle.st_fold.proofs.Pairs.{is_Equal}
 use Rattle.st_fold.specs.Map.{Map, apply, apply_batch, value_at, with_value}
-use Rattle.st_mutation.specs.Effect.{value_by}
+use Rattle.st_mutation.specs.Effect.{value_by, value_by_batch}
 use Rattle.st_key.specs.Spans.{within}
 use Rattle.st_atomic.specs.Atomic.{changed}
 
 pub equal_bytes : (a b : List ℕ) → bytes_eq a b ≡ true → a ≡ b
-equal_bytes a b e = exact_bytes a b (is_Equal (slice_cmp nat_cmp a b) (is_eq-slice_cmp a b ∙ e))
+equal_bytes a b e = (bytes_eq-Decides a b).0 e
 
 negated : {A : Type 0} (b : Bool) (x y : A) → cond (not b) x y ≡ cond b y x
 negated true x y = refl
@@ -59,9 +59,6 @@ pub after_all : (key : List ℕ) (pairs : Map) (mutations : List Mutation)
 after_all key pairs [] = refl
 after_all key pairs (mutation ∷ mutations) =
     after_all key (apply pairs mutation) mutations ∙ ap (λ v. fold (value_by key) v mutations) (after_one key pairs mutation)
-
-abbrev pub value_by_batch : List ℕ → Option (List ℕ) → Batch → Option (List ℕ)
-value_by_batch key before batch = fold (value_by key) before batch.mutations
 
 pub after_batches : (key : List ℕ) (pairs : Map) (batches : List Batch)
     → value_at (fold apply_batch pairs batches) key ≡ fold (value_by_batch key) (value_at pairs key) batches

@@ -191,15 +191,12 @@ impl ShardMap {
     }
 
     /// Each piece that was fetched whole, and is in the base, is sent to the versioned map at this version. It takes no
-    /// memory, and is never refused.
-    pub fn inject(&mut self, version: u64) -> Result<(), ShardRefusal>
-        ensures ok { OnOk result (self.new ≡ map (inject version) self.old) }
-        ensures err { OnErr result (self.new ≡ self.old) }
-        ensures refused { IfErr result (λ why. why ≡ ShardRefusal.NoMemory) }
+    /// memory.
+    pub fn inject(&mut self, version: u64)
+        ensures { self.new ≡ map (inject version) self.old }
     {
         st_model::phases_change_in_place();
         self.slots.inject_all(version);
-        Ok(())
     }
 
     /// The phase at a key, found by halving.

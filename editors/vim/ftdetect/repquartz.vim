@@ -1,0 +1,2 @@
+" Scripts of storage_tool are files named *.script.
+autocmd BufRead,BufNewFile *.script setfiletype repquartz

@@ -86,6 +86,17 @@ class Documents(unittest.TestCase):
                     whole = [line for line in lines if line and not line.startswith("#")]
                     self.assertEqual([line[4:] for line in block.rstrip("\n").split("\n")], whole)
 
+    def test_the_script_and_the_transcript_of_the_readme(self):
+        """They stand in two columns."""
+        text = program.text_of(os.path.join(program.TOP, "README.md")).decode("utf-8")
+        example = re.search(r"^On the left `examples/(\w+)\.script`", text, re.MULTILINE).group(1)
+        block = next(block for block in blocks(text) if block[0].startswith("storage 1 "))
+        left = [line[:24].rstrip() for line in block]
+        right = [line[24:] for line in block if line[24:]]
+        lines = program.text_of(program.script_of(example)).decode("utf-8").splitlines()
+        self.assertEqual(left, [line for line in lines if not line.startswith("#")])
+        self.assertEqual(right, program.text_of(program.traced_of(example)).decode("ascii").splitlines())
+
     def test_the_readme_is_short(self):
         self.assertLessEqual(len(program.text_of(os.path.join(program.TOP, "README.md"))), 6 * 1024)
 

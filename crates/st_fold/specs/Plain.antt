@@ -3,7 +3,7 @@ use Rattle.std.specs.Prelude.{◌≡◌, ℕ, ◌<◌, ◌≤◌, false, List, [
 use Rattle.std.specs.List.{AllByRecursion}
 use Rattle.st_mutation.specs.declared.batch.Batch.{Batch}
 use Rattle.st_fold.specs.declared.plan.Do.{Do}
-use Rattle.st_fold.specs.declared.plan.Do.TheVariants.{Act, Poll}
+use Rattle.st_fold.specs.declared.plan.Do.TheVariants.{Act, Flush, Poll}
 use Rattle.st_fold.specs.declared.plan.LifePlan.{LifePlan}
 use Rattle.st_fold.specs.declared.request.Request.{Request}
 use Rattle.st_fold.specs.Reading.{is_watch}
@@ -29,14 +29,16 @@ pub record IsLast (request : Request) : Type 0 where
   pub last : request.reader ≡ 0
   pub versioned : is_watch request.ask ≡ false
 
--- an act, or a poll of one of the readers
+-- an act, a flush, or a poll of one of the readers
 abbrev pub IsOfSchedule : Do → Type 0
 IsOfSchedule (Act action) = Unit {0}
+IsOfSchedule Flush = Unit {0}
 IsOfSchedule (Poll reader) = (1 ≤ reader) × (reader ≤ 64)
 
--- a life that isn't killed and watches nothing
+-- a life that isn't killed and watches nothing, and whose source of fetches never fails
 pub record IsPlainLife (plan : LifePlan) : Type 0 where
   pub asks : AllByRecursion IsOfReader plan.asks
   pub lasts : AllByRecursion IsLast plan.lasts
   pub dos : AllByRecursion (λ line. IsOfSchedule line.0) plan.dos
   pub no_kill : plan.kill ≡ None
+  pub no_fails : plan.peerfails ≡ []

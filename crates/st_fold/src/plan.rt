@@ -39,6 +39,8 @@ pub enum Act {
 #[derive(Clone, Copy, Debug, PartialEq, Eq)]
 pub enum Do {
     Act(Act),
+    /// The beginning of a commit, and then its end.
+    Flush,
     /// One poll of this reader.
     Poll(u32),
 }

@@ -2,6 +2,8 @@
 use Rattle.std.proofs.Common.{ℕ, suc, zero, List, [], ◌∷◌, ◌++◌, All, map, take, drop, sym, subst, arith}
 use Rattle.std.proofs.lemmas.List.{take-append-drop}
 use Rattle.std.specs.List.{AllByRecursion}
+use Rattle.st_fold.specs.declared.request.Request.{Request}
+use Rattle.st_model.specs.Report.{count_before, merged}
 
 pub all_map : {A : Type 0} (P Q : A → Type 0) → ((x : A) → P x → Q x) → (xs : List A) → AllByRecursion P xs → AllByRecursion Q xs
 all_map P Q f [] h = tt
@@ -36,3 +38,12 @@ pub all_at : {A : Type 0} (P : A → Type 0) → (xs : List A) → AllByRecursio
 all_at P [] h k d in_xs = absurd (omega arith)
 all_at P (x ∷ xs) h zero d in_xs = h.0
 all_at P (x ∷ xs) h (suc k) d in_xs = all_at P xs h.1 k d (omega arith)
+
+-- what holds of each request of two lists holds of each of both, as one
+pub all_merged : (P : Request → Type 0) (requests others : List Request) → AllByRecursion P requests → AllByRecursion P others
+    → AllByRecursion P (merged requests others)
+all_merged P [] others all more = more
+all_merged P (request ∷ requests) others all more =
+    let count = count_before request.number others in
+    all_append P (take count others) (request ∷ merged requests (drop count others)) (all_take P count others more)
+    (all.0, all_merged P requests (drop count others) all.1 (all_drop P count others more))

@@ -1,10 +1,10 @@
 -- What a poll adds to a session.
-use Rattle.std.proofs.Common.{◌≡◌, ◌≢◌, ℕ, suc, ◌+◌, ◌<◌, ◌≤◌, Bool, true, false, ◌==◌, nat_lt, cond, List, [], ◌∷◌, ◌++◌, map, length, Option, Some, None, is_none, refl, sym, ap, ◌∙◌, arith, le_refl}
+use Rattle.std.proofs.Common.{◌≡◌, ◌≢◌, ℕ, suc, ◌+◌, ◌<◌, ◌≤◌, Bool, true, false, ◌==◌, nat_lt, cond, List, [], ◌∷◌, ◌++◌, map, length, Option, Some, None, is_none, refl, sym, ap, ◌∙◌, subst, arith, le_refl}
 use Rattle.std.proofs.lemmas.Bool.{cond_both, cond-true, and_parts, eqb-true, eq-eqb}
-use Rattle.std.specs.List.{AllByRecursion}
+use Rattle.std.specs.List.{AllByRecursion, find}
 use Rattle.std.specs.Option.{option_map_or}
 use Rattle.st_fold.specs.Map.{Map, folded, value_at}
-use Rattle.st_fold.specs.Reading.{version_of, span_of, plain}
+use Rattle.st_fold.specs.Reading.{is_watch, version_of, span_of, plain}
 use Rattle.st_mutation.specs.declared.batch.Batch.{Batch}
 use Rattle.st_fold.specs.declared.report.Event.{Event}
 use Rattle.st_fold.specs.declared.request.Answer.{Answer}
@@ -15,8 +15,9 @@ use Rattle.st_model.specs.State.{Given, Opening, State}
 use Rattle.st_model.specs.Trace.{state_after, state_at}
 use Rattle.st_model.specs.Reply.{Reply, too_old, not_yet, wrong_shard, found, first_unreadable, reply_unless, reply}
 use Rattle.st_model.specs.Session.{Outcome, open_yet, never, outcome, answer_to, after_answer, is_empty}
-use Rattle.st_model.specs.Schedule.{Session, Run, poll, poll_first, is_open}
-use Rattle.st_model.specs.Plain.{IsSoundSession, fresh_opening, outcome_of}
+use Rattle.st_model.specs.Schedule.{Polled, Session, events_of_poll, is_open, poll, poll_first, poll_of}
+use Rattle.st_model.specs.Plain.{fresh_opening}
+use Rattle.st_model.proofs.Sound.{IsSoundSession, outcome_of}
 use Rattle.st_model.proofs.Lists.{all_append}
 use Rattle.st_model.proofs.Traces.{at_end, outcome_none, outcome_some}
 
@@ -103,48 +104,58 @@ module _ (given : Given) (opening : Opening) (trace : List Event) (ask : Ask) wh
       ∙ outcome_push (polls + 1) places place state e f.3
       ∙ ap (λ n. outcome_of (answer_in n state)) (omega arith)
 
-  unanswered : (polls : ℕ) (told : Reply) → answer_to given.settings.patience polls told ≡ None → polls ≡ given.settings.patience → ⊥
-  unanswered polls (too_old oldest) h same = cc
-  unanswered polls (not_yet newest) h same =
-      let last = cond-true (polls == given.settings.patience) (Some (FutureVersion newest polls)) None (eq-eqb polls given.settings.patience same) in
-      cc
-  unanswered polls (wrong_shard key) h same = cc
-  unanswered polls (found answer) h same = cc
-
-  -- an open request was polled less often than `patience` says
-  pub patient_yet : (polls : ℕ) (places : List ℕ) → outcome given opening trace ask polls places ≡ open_yet
-      → polls < given.settings.patience → polls + length places < given.settings.patience
-  patient_yet polls [] h under = omega arith
-  patient_yet polls (place ∷ places) h under =
-      let f = first_open polls place places h in
-      let more : polls + 1 ≢ given.settings.patience = unanswered (polls + 1) (reply given.log f.0 ask) f.2 in
-      let rest : polls + 1 + length places < given.settings.patience = patient_yet (polls + 1) places f.3 (omega arith) in
-      omega arith
-
 -- ---- sessions
 
-sound_poll : (given : Given) (run : Run) (state : State) (session : Session)
-    → state_after given fresh_opening run.trace ≡ Some state → session.answer ≡ None → IsSoundSession given run session
-    → IsSoundSession given run (poll given (length run.trace) state session)
-sound_poll given run state session after none sound = record {
-  within = all_append (λ place. place ≤ length run.trace) session.places (length run.trace ∷ []) sound.within (le_refl (length run.trace), tt);
-  gives =
-      outcome_push given fresh_opening run.trace session.request.ask 0 session.places (length run.trace) state
-      (at_end given fresh_opening run.trace ∙ after) (sound.gives ∙ ap outcome_of none)
-      ∙ ap (λ n. outcome_of (answer_to given.settings.patience n (reply given.log state session.request.ask))) (omega arith);
-  answered = not_stopped given.settings.patience (length session.places + 1) given.log state session.request.ask;
-}
+-- what a poll of a request at a version leads to
+abbrev told : Given → State → Session → Option Answer
+told given state session = answer_to given.settings.patience (length session.places + 1) (reply given.log state session.request.ask)
+
+poll_versioned : (given : Given) (state : State) (session : Session) → is_watch session.request.ask ≡ false
+    → poll_of given state session ≡ record { answer = told given state session; events = [] }
+poll_versioned given state session versioned = by_ask session.request.ask versioned
+  where
+    by_ask : (asked : Ask) → is_watch asked ≡ false
+        → poll_of given state (record session { request = record session.request { ask = asked } })
+        ≡ record { answer = told given state (record session { request = record session.request { ask = asked } }); events = [] }
+    by_ask (Get key version) e = refl
+    by_ask (Rows range rows bytes backward version) e = refl
+    by_ask (Select key or_equal offset range version) e = refl
+    by_ask (Watch key value) e = cc
+
+sound_poll : (given : Given) (trace : List Event) (state : State) (session : Session)
+    → state_after given fresh_opening trace ≡ Some state → session.answer ≡ None → IsSoundSession given trace session
+    → IsSoundSession given trace (poll given (length trace) state session)
+sound_poll given trace state session after none sound =
+    subst (λ (led : Polled). IsSoundSession given trace (record session { places = session.places ++ length trace ∷ []; answer = led.answer }))
+    (sym (poll_versioned given state session sound.versioned)) (record {
+      within = all_append (λ place. place ≤ length trace) session.places (length trace ∷ []) sound.within (le_refl (length trace), tt);
+      gives =
+          outcome_push given fresh_opening trace session.request.ask 0 session.places (length trace) state
+          (at_end given fresh_opening trace ∙ after) (sound.gives ∙ ap outcome_of none)
+          ∙ ap (λ n. outcome_of (answer_to given.settings.patience n (reply given.log state session.request.ask))) (omega arith);
+      answered = not_stopped given.settings.patience (length session.places + 1) given.log state session.request.ask;
+      versioned = sound.versioned;
+    })
 
 module _ (given : Given) (reader : ℕ) (state : State) where
-  pub sessions_sound : (run : Run) → state_after given fresh_opening run.trace ≡ Some state → (sessions : List Session)
-      → AllByRecursion (IsSoundSession given run) sessions
-      → AllByRecursion (IsSoundSession given run) (poll_first given reader (length run.trace) state sessions)
-  sessions_sound run after [] sound = tt
-  sessions_sound run after (session ∷ later) sound =
-      cond_both (is_open reader session) (poll given (length run.trace) state session ∷ later)
-      (session ∷ poll_first given reader (length run.trace) state later) (AllByRecursion (IsSoundSession given run))
-      (λ here. (sound_poll given run state session after (open_is reader session here).1 sound.0, sound.1))
-      (λ _. (sound.0, sessions_sound run after later sound.1))
+  pub sessions_sound : (trace : List Event) → state_after given fresh_opening trace ≡ Some state → (sessions : List Session)
+      → AllByRecursion (IsSoundSession given trace) sessions
+      → AllByRecursion (IsSoundSession given trace) (poll_first given reader (length trace) state sessions)
+  sessions_sound trace after [] sound = tt
+  sessions_sound trace after (session ∷ later) sound =
+      cond_both (is_open reader session) (poll given (length trace) state session ∷ later)
+      (session ∷ poll_first given reader (length trace) state later) (AllByRecursion (IsSoundSession given trace))
+      (λ here. (sound_poll given trace state session after (open_is reader session here).1 sound.0, sound.1))
+      (λ _. (sound.0, sessions_sound trace after later sound.1))
+
+  pub poll_makes_no_event : (trace : List Event) (sessions : List Session) → AllByRecursion (IsSoundSession given trace) sessions
+      → events_of_poll given reader state sessions ≡ []
+  poll_makes_no_event trace [] sound = refl
+  poll_makes_no_event trace (session ∷ later) sound =
+      cond_both (is_open reader session) (Some session) (find (is_open reader) later)
+      (λ o. option_map_or (λ s. (poll_of given state s).events) o [] ≡ [])
+      (λ _. ap (λ (led : Polled). led.events) (poll_versioned given state session sound.0.versioned))
+      (λ _. poll_makes_no_event trace later sound.1)
 
   pub same_requests : (place : ℕ) (sessions : List Session)
       → map (λ (session : Session). session.request) (poll_first given reader place state sessions)
@@ -155,11 +166,3 @@ module _ (given : Given) (reader : ℕ) (state : State) where
       (λ polled. map (λ (s : Session). s.request) polled ≡ map (λ (s : Session). s.request) (session ∷ later))
       (λ _. refl)
       (λ _. ap (λ requests. session.request ∷ requests) (same_requests place later))
-
-  pub same_length : (place : ℕ) (sessions : List Session) → length (poll_first given reader place state sessions) ≡ length sessions
-  same_length place [] = refl
-  same_length place (session ∷ later) =
-      cond_both (is_open reader session) (poll given place state session ∷ later) (session ∷ poll_first given reader place state later)
-      (λ polled. length polled ≡ length (session ∷ later))
-      (λ _. refl)
-      (λ _. ap (λ n. suc n) (same_length place later))

@@ -16,7 +16,8 @@ use Rattle.st_fold.specs.declared.report.Life.{Life}
 use Rattle.st_fold.specs.declared.request.Answer.{Answer}
 use Rattle.st_fold.specs.declared.request.Answer.TheVariants.{Value, Absent, FutureVersion, Stopped}
 use Rattle.st_model.specs.Plain.{fresh_opening, plain_state}
-use Rattle.st_model.specs.Report.{IsDemanded, IsLife, ends_life, fresh, status_of}
+use Rattle.st_fold.specs.Endings.{status_of}
+use Rattle.st_model.specs.Report.{Begun, IsDemanded, IsLife, ends_life, fresh}
 use Rattle.st_model.specs.State.{Given}
 use Rattle.st_model.specs.Trace.{is_at_rest, state_after}
 use Rattle.st_model.proofs.Rows.{asking, given_to, life_to, set}
@@ -79,22 +80,22 @@ takes_turns_back life = omega (arith, (life.in_order 1).0)
 -- a request of the end polled before the end
 asks_last_early : Refused (life_with whole (answer 1 (2 ∷ []) one ∷ answer 2 (2 ∷ []) one ∷ answer 3 (1 ∷ []) Absent ∷ []) ending.Closed)
 asks_last_early life =
-    let split = same_from_push (Opened 0 ∷ Applied 1 ∷ []) life.ends.0 Closed Closed life.ends.2 in
-    let e : 1 ≡ 2 = life.ends.7 0 0 (le_refl 1) ∙ ap length (sym split.0) in
+    let split = same_from_push (Opened 0 ∷ Applied 1 ∷ []) life.ends.events Closed Closed life.ends.trace in
+    let e : 1 ≡ 2 = life.ends.lasts 0 0 (le_refl 1) ∙ ap length (sym split.0) in
     omega (arith, e)
 
 -- a life that closes while a batch is due
 closes_early : IsLife given fresh_opening (life_to 1 [] []) (life_with (Opened 0 ∷ Closed ∷ []) [] ending.Closed) → ⊥
 closes_early life =
-    let split = same_from_push (Opened 0 ∷ []) life.ends.0 Closed Closed life.ends.2 in
-    let after : Some (plain_state 0) ≡ Some life.ends.1 = ap (state_after given fresh_opening) split.0 ∙ life.ends.3 in
-    let at : plain_state 0 ≡ life.ends.1 = cc in
-    let rest : false ≡ true = ap (is_at_rest given) at ∙ life.ends.4 in
+    let split = same_from_push (Opened 0 ∷ []) life.ends.events Closed Closed life.ends.trace in
+    let after : Some (plain_state 0) ≡ Some life.ends.state = ap (state_after given fresh_opening) split.0 ∙ life.ends.after in
+    let at : plain_state 0 ≡ life.ends.state = cc in
+    let rest : false ≡ true = ap (is_at_rest given) at ∙ life.ends.at_rest in
     cc
 
 -- a life that was killed though it was to close, one that ends otherwise than it says, and one that isn't legal
 killed_unasked : IsLife given fresh_opening (life_to 1 [] []) (life_with (Opened 0 ∷ Killed ∷ []) [] ending.Killed) → ⊥
-killed_unasked life = let none : false ≡ true = life.ends.2 in cc
+killed_unasked life = let none : None ≡ Some (life.ends.calls, life.ends.choice) = life.ends.to_kill in cc
 
 closes_by_fault : IsLife given fresh_opening (life_to 1 [] []) (life_with whole [] ending.Faulted) → ⊥
 closes_by_fault life = let end : true ≡ false = life.ends in cc
@@ -106,6 +107,10 @@ applies_twice life = let none : false ≡ true = life.legal in cc
 
 abbrev script : Script
 script = record { settings = given.settings; own = given.own; log = given.log; lives = life_to 1 [] [] ∷ life_to 1 [] [] ∷ [] }
+
+-- a life of the script that was begun
+abbrev begun : Life → Begun
+begun life = record { plan = life_to 1 [] []; opening = fresh_opening; life = life }
 
 -- what such reports begin with, and their statuses
 opens_empty : fresh script ≡ record { version = 0; available = given.own }
@@ -125,7 +130,7 @@ end_lives : map ends_life
 end_lives = refl
 
 -- a life that is missing, or a fault, beside status 0; and a fault with the status of another
-misses_a_life : IsDemanded script fresh_opening 0 None (life_with whole [] ending.Closed ∷ []) → ⊥
+misses_a_life : IsDemanded script fresh_opening 0 None (begun (life_with whole [] ending.Closed) ∷ []) → ⊥
 misses_a_life report = let e : 1 ≡ 2 = report.all_lives refl in omega (arith, e)
 
 hides_its_fault : IsDemanded script fresh_opening 0 (Some fault.Memory) [] → ⊥
@@ -135,24 +140,32 @@ tells_another : IsDemanded script fresh_opening 4 (Some fault.Memory) [] → ⊥
 tells_another report = let e : 4 ≡ 9 = report.status_is in omega (arith, e)
 
 -- a life after one that faulted, a third life of two, and a life that ends by a fault of the words
-goes_on : IsDemanded script fresh_opening 9 (Some fault.Memory) (life_with (Opened 0 ∷ []) [] ending.Faulted ∷ life_with whole [] ending.Closed ∷ []) → ⊥
+goes_on : IsDemanded script fresh_opening 9 (Some fault.Memory)
+    (begun (life_with (Opened 0 ∷ []) [] ending.Faulted) ∷ begun (life_with whole [] ending.Closed) ∷ []) → ⊥
 goes_on report =
-    let e : 1 ≡ 0 = ap length (report.lives_are.1 refl) in
+    let e : 1 ≡ 0 = ap length (report.lives_are.3 refl) in
     omega (arith, e)
 
-one_too_many : (a b c : Life) → IsDemanded script fresh_opening 9 (Some fault.Memory) (a ∷ b ∷ c ∷ []) → ⊥
+one_too_many : (a b c : Begun) → IsDemanded script fresh_opening 9 (Some fault.Memory) (a ∷ b ∷ c ∷ []) → ⊥
 one_too_many a b c report = report.lives_are.4.4
 
-faults_by_words : IsDemanded script fresh_opening 2 (Some fault.Words) (life_with (Opened 0 ∷ []) [] ending.Faulted ∷ []) → ⊥
+faults_by_words : IsDemanded script fresh_opening 2 (Some fault.Words) (begun (life_with (Opened 0 ∷ []) [] ending.Faulted) ∷ []) → ⊥
 faults_by_words report =
-    let e : false ≡ true = report.faulted 0 (life_with [] [] ending.Faulted) (le_refl 1) refl in
+    let e : false ≡ true = report.faulted 0 (begun (life_with [] [] ending.Faulted)) (le_refl 1) refl in
     cc
 
 -- a life that opens at a version that isn't durable
-opens_elsewhere : (second : Life) → second.opened ≡ 1
-    → IsDemanded script fresh_opening 0 None (life_with whole [] ending.Closed ∷ second ∷ []) → ⊥
+opens_elsewhere : (second : Begun) → second.opening.version ≡ 1
+    → IsDemanded script fresh_opening 0 None (begun (life_with whole [] ending.Closed) ∷ second ∷ []) → ⊥
 opens_elsewhere second at report =
-    elim report.lives_are.3 [
-      | inl durable ↦ omega (arith, at, report.lives_are.4.0.opened, durable.0)
+    elim report.lives_are.4.1 [
+      | inl durable ↦ omega (arith, at, durable.0)
       | inr flight ↦ cc
     ]
+
+-- a failed source of fetches in a script of which no life is told, and in one that lets none fail
+fails_before : IsDemanded script fresh_opening 7 (Some (fault.Peer 1)) [] → ⊥
+fails_before report = report.cause
+
+fails_unasked : IsDemanded script fresh_opening 7 (Some (fault.Peer 1)) (begun (life_with (Opened 0 ∷ []) [] ending.Faulted) ∷ []) → ⊥
+fails_unasked report = let none : false ≡ true = report.cause.1 in cc

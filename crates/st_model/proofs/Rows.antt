@@ -23,12 +23,13 @@ use Rattle.st_key.specs.Spans.{Span}
 use Rattle.st_model.specs.declared.piece.Piece.{Piece}
 use Rattle.st_model.specs.declared.piece.Phase.TheVariants as phase
 use Rattle.st_model.specs.Pieces.{all_keys, move_piece, wants_block}
-use Rattle.st_model.specs.Plain.{fresh_opening, plain_state}
+use Rattle.st_model.specs.Plain.{fresh_opening, plain_stage, plain_state}
 use Rattle.st_model.specs.Reply.{first_unreadable, reply, too_old, not_yet, wrong_shard, found}
 use Rattle.st_model.specs.Report.{requests_of}
-use Rattle.st_model.specs.Schedule.{first_run, life_of, play, poll_out, polled}
+use Rattle.st_model.specs.Schedule.{BreaksOff, Plays, Stage, readers_at_end}
 use Rattle.st_model.specs.Session.{Outcome, open_yet, over, never, outcome}
 use Rattle.st_model.specs.State.{Given, Opening, State, after_batch, assigned, first_state}
+use Rattle.st_model.proofs.Played.{breaks_off, plays}
 use Rattle.st_model.specs.Trace.{commit_due, commit_version, is_at_rest, state_after, state_at}
 
 -- ---- scripts. The keys a and b are 97 and 98, the values 1 and 2 are 49 and 50
@@ -56,33 +57,42 @@ life_to upto asks dos = record { upto = upto; asks = asks; lasts = []; dos = dos
 
 -- ---- lives
 
+abbrev first_get_stage : Stage (Unit {0})
+first_get_stage = plain_stage (given_to 1 (set 1 97 49 ∷ [])) (life_to 1 (asking 1 1 97 1 ∷ []) (apply ∷ poll 1 ∷ []))
+
 -- a batch is applied, and then a get at its version finds its value
-first_get : play (given_to 1 (set 1 97 49 ∷ [])) fresh_opening (life_to 1 (asking 1 1 97 1 ∷ []) (apply ∷ poll 1 ∷ []))
-    ≡ record {
+first_get : Plays first_get_stage
+    (record {
       opened = 0;
       trace = Opened 0 ∷ Applied 1 ∷ Closed ∷ [];
       answers = record { request = 1; places = 2 ∷ []; answer = Value (49 ∷ []) } ∷ [];
       ending = ending.Closed;
-    }
-unfolding poll_out
-first_get = refl
+    })
+unfolding readers_at_end
+first_get = plays first_get_stage 100 refl refl
+
+abbrev future_version_stage : Stage (Unit {0})
+future_version_stage = plain_stage (given_to 0 []) (life_to 0 (asking 1 1 97 1 ∷ []) [])
 
 -- a version that never comes is polled as often as `patience` says
-future_version : play (given_to 0 []) fresh_opening (life_to 0 (asking 1 1 97 1 ∷ []) [])
-    ≡ record {
+future_version : Plays future_version_stage
+    (record {
       opened = 0;
       trace = Opened 0 ∷ Closed ∷ [];
       answers = record { request = 1; places = 1 ∷ 1 ∷ 1 ∷ []; answer = FutureVersion 0 3 } ∷ [];
       ending = ending.Closed;
-    }
-unfolding poll_out
-future_version = refl
+    })
+unfolding readers_at_end
+future_version = plays future_version_stage 100 refl refl
+
+abbrev two_readers_stage : Stage (Unit {0})
+two_readers_stage = plain_stage (given_to 2 (set 1 97 49 ∷ set 2 97 50 ∷ []))
+    (life_to 2 (asking 1 1 97 1 ∷ asking 2 2 97 2 ∷ asking 3 1 97 2 ∷ []) (poll 2 ∷ apply ∷ poll 1 ∷ poll 2 ∷ apply ∷ poll 1 ∷ []))
 
 -- two readers take turns: the second waits for version 2 while the first reads version 1, and each reads the key as it
 -- was at the version
-two_readers : play (given_to 2 (set 1 97 49 ∷ set 2 97 50 ∷ [])) fresh_opening
-    (life_to 2 (asking 1 1 97 1 ∷ asking 2 2 97 2 ∷ asking 3 1 97 2 ∷ []) (poll 2 ∷ apply ∷ poll 1 ∷ poll 2 ∷ apply ∷ poll 1 ∷ []))
-    ≡ record {
+two_readers : Plays two_readers_stage
+    (record {
       opened = 0;
       trace = Opened 0 ∷ Applied 1 ∷ Applied 2 ∷ Closed ∷ [];
       answers =
@@ -90,14 +100,17 @@ two_readers : play (given_to 2 (set 1 97 49 ∷ set 2 97 50 ∷ [])) fresh_openi
           ∷ record { request = 2; places = 1 ∷ 2 ∷ 3 ∷ []; answer = Value (50 ∷ []) }
           ∷ record { request = 3; places = 3 ∷ []; answer = Value (50 ∷ []) } ∷ [];
       ending = ending.Closed;
-    }
-unfolding poll_out
-two_readers = refl
+    })
+unfolding readers_at_end
+two_readers = plays two_readers_stage 100 refl refl
+
+abbrev overwritten_stage : Stage (Unit {0})
+overwritten_stage = plain_stage (given_to 2 (set 1 97 49 ∷ set 2 97 50 ∷ []))
+    (life_to 2 (asking 1 1 97 1 ∷ asking 2 1 97 2 ∷ asking 3 1 98 2 ∷ []) [])
 
 -- an old version is read after the key was overwritten, and a key that was never set is absent
-overwritten : play (given_to 2 (set 1 97 49 ∷ set 2 97 50 ∷ [])) fresh_opening
-    (life_to 2 (asking 1 1 97 1 ∷ asking 2 1 97 2 ∷ asking 3 1 98 2 ∷ []) [])
-    ≡ record {
+overwritten : Plays overwritten_stage
+    (record {
       opened = 0;
       trace = Opened 0 ∷ Applied 1 ∷ Applied 2 ∷ Closed ∷ [];
       answers =
@@ -105,54 +118,64 @@ overwritten : play (given_to 2 (set 1 97 49 ∷ set 2 97 50 ∷ [])) fresh_openi
           ∷ record { request = 2; places = 3 ∷ []; answer = Value (50 ∷ []) }
           ∷ record { request = 3; places = 3 ∷ []; answer = Absent } ∷ [];
       ending = ending.Closed;
-    }
-unfolding poll_out
-overwritten = refl
+    })
+unfolding readers_at_end
+overwritten = plays overwritten_stage 100 refl refl
+
+abbrev version_zero_stage : Stage (Unit {0})
+version_zero_stage = plain_stage (given_to 1 (set 1 97 49 ∷ [])) (life_to 1 (asking 1 1 97 0 ∷ []) (poll 1 ∷ []))
 
 -- at version 0, which each store has, every key is absent
-version_zero : play (given_to 1 (set 1 97 49 ∷ [])) fresh_opening (life_to 1 (asking 1 1 97 0 ∷ []) (poll 1 ∷ []))
-    ≡ record {
+version_zero : Plays version_zero_stage
+    (record {
       opened = 0;
       trace = Opened 0 ∷ Applied 1 ∷ Closed ∷ [];
       answers = record { request = 1; places = 1 ∷ []; answer = Absent } ∷ [];
       ending = ending.Closed;
-    }
-unfolding poll_out
-version_zero = refl
+    })
+unfolding readers_at_end
+version_zero = plays version_zero_stage 100 refl refl
+
+abbrev nothing_due_stage : Stage (Unit {0})
+nothing_due_stage = plain_stage (given_to 1 (set 1 97 49 ∷ set 2 97 50 ∷ []))
+    (life_to 1 (asking 1 1 97 1 ∷ []) ((step_of.Act Apply, 3) ∷ poll 2 ∷ (step_of.Poll 1, 5) ∷ apply ∷ []))
 
 -- acts that aren't due and polls of a reader without requests do nothing, and a batch above the life's version isn't
 -- applied
-nothing_due : play (given_to 1 (set 1 97 49 ∷ set 2 97 50 ∷ [])) fresh_opening
-    (life_to 1 (asking 1 1 97 1 ∷ []) ((step_of.Act Apply, 3) ∷ poll 2 ∷ (step_of.Poll 1, 5) ∷ apply ∷ []))
-    ≡ record {
+nothing_due : Plays nothing_due_stage
+    (record {
       opened = 0;
       trace = Opened 0 ∷ Applied 1 ∷ Closed ∷ [];
       answers = record { request = 1; places = 2 ∷ []; answer = Value (49 ∷ []) } ∷ [];
       ending = ending.Closed;
-    }
-unfolding poll_out
-nothing_due = refl
+    })
+unfolding readers_at_end
+nothing_due = plays nothing_due_stage 100 refl refl
+
+abbrev stopped_stage : Stage (Unit {0})
+stopped_stage = plain_stage (given_to 1 []) (life_to 1 (asking 1 1 97 1 ∷ asking 2 2 97 0 ∷ []) (poll 1 ∷ []))
 
 -- a request that a fault leaves open was stopped
-stopped : life_of fresh_opening
-    (polled (given_to 1 []) fresh_opening 1 (first_run fresh_opening (life_to 1 (asking 1 1 97 1 ∷ asking 2 2 97 0 ∷ []) [])))
-    ending.Faulted
-    ≡ record {
+stopped : BreaksOff stopped_stage
+    (record {
       opened = 0;
       trace = Opened 0 ∷ [];
       answers =
           record { request = 1; places = 1 ∷ []; answer = Stopped }
           ∷ record { request = 2; places = []; answer = Stopped } ∷ [];
       ending = ending.Faulted;
-    }
-stopped = refl
+    })
+stopped = breaks_off stopped_stage 1 refl refl
+
+abbrev lasts_wait_stage : Stage (Unit {0})
+lasts_wait_stage = plain_stage (given_to 2 (set 1 97 49 ∷ set 2 97 50 ∷ []))
+    (record (life_to 2 (asking 2 1 97 1 ∷ asking 4 2 97 3 ∷ []) (apply ∷ poll 1 ∷ (step_of.Poll 2, 2) ∷ []))
+    { lasts = asking 1 0 97 2 ∷ asking 3 0 97 3 ∷ asking 5 0 98 0 ∷ [] })
 
 -- the requests of the end are polled when the life is at rest and the readers have their answers, as often as `patience`
 -- says; a reader that is told to poll before does nothing for them
-lasts_wait : play (given_to 2 (set 1 97 49 ∷ set 2 97 50 ∷ [])) fresh_opening
-    (record (life_to 2 (asking 2 1 97 1 ∷ asking 4 2 97 3 ∷ []) (apply ∷ poll 1 ∷ (step_of.Poll 2, 2) ∷ []))
-    { lasts = asking 1 0 97 2 ∷ asking 3 0 97 3 ∷ asking 5 0 98 0 ∷ [] })
-    ≡ record {
+lasts_wait : Plays lasts_wait_stage
+    (record {
       opened = 0;
       trace = Opened 0 ∷ Applied 1 ∷ Applied 2 ∷ Closed ∷ [];
       answers =
@@ -162,9 +185,9 @@ lasts_wait : play (given_to 2 (set 1 97 49 ∷ set 2 97 50 ∷ [])) fresh_openin
           ∷ record { request = 4; places = 2 ∷ 2 ∷ 3 ∷ []; answer = FutureVersion 2 3 }
           ∷ record { request = 5; places = 3 ∷ []; answer = Absent } ∷ [];
       ending = ending.Closed;
-    }
-unfolding poll_out
-lasts_wait = refl
+    })
+unfolding readers_at_end
+lasts_wait = plays lasts_wait_stage 100 refl refl
 
 -- the keys a, b and c get the values 1, 2 and 3; those from a up to c are cleared; b gets the value 9
 abbrev clears : Given
@@ -182,12 +205,15 @@ answered_there number answer = record { request = number; places = 4 ∷ []; ans
 abbrev a_to_c : Span
 a_to_c = record { begin = 97 ∷ []; end = 100 ∷ [] }
 
--- rows both ways: the byte limit, of 2, is met by the first row, of 2 bytes; one of 3 bytes lets a second row in; of
--- three rows that are wanted all come; and one row of two is wanted, from the last key on
-ranges : play clears fresh_opening (life_to 3 (
+abbrev ranges_stage : Stage (Unit {0})
+ranges_stage = plain_stage clears (life_to 3 (
     asking_this 1 (Rows a_to_c 10 2 false 1) ∷ asking_this 2 (Rows a_to_c 10 3 true 1)
     ∷ asking_this 3 (Rows a_to_c 3 1000 false 1) ∷ asking_this 4 (Rows all_keys 1 1000 true 3) ∷ []) [])
-    ≡ record {
+
+-- rows both ways: the byte limit, of 2, is met by the first row, of 2 bytes; one of 3 bytes lets a second row in; of
+-- three rows that are wanted all come; and one row of two is wanted, from the last key on
+ranges : Plays ranges_stage
+    (record {
       opened = 0;
       trace = Opened 0 ∷ Applied 1 ∷ Applied 2 ∷ Applied 3 ∷ Closed ∷ [];
       answers =
@@ -196,24 +222,27 @@ ranges : play clears fresh_opening (life_to 3 (
           ∷ answered_there 3 (answer.Rows ((97 ∷ [], 49 ∷ []) ∷ (98 ∷ [], 50 ∷ []) ∷ (99 ∷ [], 51 ∷ []) ∷ []) false)
           ∷ answered_there 4 (answer.Rows ((99 ∷ [], 51 ∷ []) ∷ []) true) ∷ [];
       ending = ending.Closed;
-    }
-unfolding poll_out
-ranges = refl
+    })
+unfolding readers_at_end
+ranges = plays ranges_stage 100 refl refl
 
--- selectors: to a key, before the first and after the last
-selectors : play clears fresh_opening (life_to 3 (
+abbrev selectors_stage : Stage (Unit {0})
+selectors_stage = plain_stage clears (life_to 3 (
     asking_this 1 (Select (99 ∷ []) false (pos 0) all_keys 1) ∷ asking_this 2 (Select (97 ∷ []) true (pos 1) all_keys 3)
     ∷ asking_this 3 (Select (98 ∷ []) false (pos 0) all_keys 3) ∷ asking_this 4 (Select (99 ∷ []) true (pos 1) all_keys 3) ∷ []) [])
-    ≡ record {
+
+-- selectors: to a key, before the first and after the last
+selectors : Plays selectors_stage
+    (record {
       opened = 0;
       trace = Opened 0 ∷ Applied 1 ∷ Applied 2 ∷ Applied 3 ∷ Closed ∷ [];
       answers =
           answered_there 1 (answer.KeyIs (to.Key (98 ∷ []))) ∷ answered_there 2 (answer.KeyIs (to.Key (98 ∷ [])))
           ∷ answered_there 3 (answer.KeyIs to.Before) ∷ answered_there 4 (answer.KeyIs to.After) ∷ [];
       ending = ending.Closed;
-    }
-unfolding poll_out
-selectors = refl
+    })
+unfolding readers_at_end
+selectors = plays selectors_stage 100 refl refl
 
 -- the requests of the end stand among the others by their numbers
 in_order : requests_of (record (life_to 0 (asking 1 1 97 0 ∷ asking 3 2 97 0 ∷ []) []) { lasts = asking 2 0 97 0 ∷ asking 4 0 97 0 ∷ [] })

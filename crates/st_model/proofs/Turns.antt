@@ -2,10 +2,11 @@
 use Rattle.std.proofs.Common.{◌≡◌, ◌≢◌, ℕ, ◌≤◌, Bool, true, false, ◌||◌, ◌==◌, cond, List, [], ◌∷◌, ◌++◌, length, is_none, refl, sym, ap, ◌∙◌, inl, inr, ◌⊎◌, append-nil, append_assoc}
 use Rattle.std.proofs.lemmas.Bool.{cond_both, cond-false, and_from, and_left, eqb-true, eq-eqb, ne_eqb, both_ways, or_parts}
 use Rattle.std.specs.List.{AllByRecursion, list_any}
+use Rattle.st_fold.specs.declared.report.Event.{Event}
 use Rattle.st_model.specs.State.{Given, State}
 use Rattle.st_model.specs.Session.{NeverFalls}
-use Rattle.st_model.specs.Schedule.{Session, Run, poll, poll_first, is_open}
-use Rattle.st_model.specs.Plain.{IsSoundSession, TakeTurns, polls_of}
+use Rattle.st_model.specs.Schedule.{Session, poll, poll_first, is_open}
+use Rattle.st_model.proofs.Sound.{IsSoundSession, TakeTurns, polls_of}
 use Rattle.st_model.proofs.Lists.{all_append}
 use Rattle.st_model.proofs.Polls.{open_is}
 
@@ -15,14 +16,14 @@ falls_push [] place falls below = (tt, tt)
 falls_push (first ∷ []) place falls below = (below.0, (tt, tt))
 falls_push (first ∷ second ∷ places) place falls below = (falls.0, falls_push (second ∷ places) place falls.1 below.1)
 
-pub all_polls : (given : Given) (run : Run) (reader : ℕ) (sessions : List Session) → AllByRecursion (IsSoundSession given run) sessions
-    → AllByRecursion (λ place. place ≤ length run.trace) (polls_of reader sessions)
-all_polls given run reader [] sound = tt
-all_polls given run reader (session ∷ later) sound =
-    let rest = all_polls given run reader later sound.1 in
+pub all_polls : (given : Given) (trace : List Event) (reader : ℕ) (sessions : List Session) → AllByRecursion (IsSoundSession given trace) sessions
+    → AllByRecursion (λ place. place ≤ length trace) (polls_of reader sessions)
+all_polls given trace reader [] sound = tt
+all_polls given trace reader (session ∷ later) sound =
+    let rest = all_polls given trace reader later sound.1 in
     cond_both (session.request.reader == reader) (session.places ++ polls_of reader later) (polls_of reader later)
-    (AllByRecursion (λ place. place ≤ length run.trace))
-    (λ _. all_append (λ place. place ≤ length run.trace) session.places (polls_of reader later) sound.0.within rest)
+    (AllByRecursion (λ place. place ≤ length trace))
+    (λ _. all_append (λ place. place ≤ length trace) session.places (polls_of reader later) sound.0.within rest)
     (λ _. rest)
 
 module _ (given : Given) (reader place : ℕ) (state : State) where
@@ -85,26 +86,3 @@ module _ (given : Given) (reader place : ℕ) (state : State) where
             ∙ turns.0 none),
         turns_kept later turns.1,
       ))
-
-  -- no request of another reader is opened or answered
-  pub open_apart : (other : ℕ) → other ≢ reader → (sessions : List Session)
-      → list_any (is_open other) (poll_first given reader place state sessions) ≡ list_any (is_open other) sessions
-  open_apart other apart [] = refl
-  open_apart other apart (session ∷ later) =
-      cond_both (is_open reader session) (poll given place state session ∷ later) (session ∷ poll_first given reader place state later)
-      (λ polled. list_any (is_open other) polled ≡ list_any (is_open other) (session ∷ later))
-      (λ here.
-      let not_other : session.request.reader == other ≡ false =
-      ne_eqb session.request.reader other (λ e. apart (sym e ∙ (open_is reader session here).0)) in
-      ap (λ b. b || list_any (is_open other) later)
-      (and_left (session.request.reader == other) (is_none (poll given place state session).answer) not_other
-      ∙ sym (and_left (session.request.reader == other) (is_none session.answer) not_other)))
-      (λ _. ap (λ b. is_open other session || b) (open_apart other apart later))
-
-  -- where the reader has no open request, a poll does nothing
-  pub idle : (sessions : List Session) → list_any (is_open reader) sessions ≡ false → poll_first given reader place state sessions ≡ sessions
-  idle [] none = refl
-  idle (session ∷ later) none =
-      let shut = or_parts (is_open reader session) (list_any (is_open reader) later) none in
-      cond-false (is_open reader session) (poll given place state session ∷ later) (session ∷ poll_first given reader place state later) shut.0
-      ∙ ap (λ sessions. session ∷ sessions) (idle later shut.1)

@@ -1,5 +1,5 @@
 -- The keys below ff in pieces: cut by moves, and never merged.
-use Rattle.std.specs.Prelude.{ℕ, Bool, true, false, not, ◌&&◌, nat_le, bytes_eq, List, [], ◌∷◌, ◌++◌, map, Option, if◌then◌else◌}
+use Rattle.std.specs.Prelude.{ℕ, Bool, true, false, not, ◌&&◌, nat_lt, nat_le, bytes_eq, List, [], ◌∷◌, ◌++◌, map, Option, if◌then◌else◌}
 use Rattle.std.specs.List.{flat_map, fold, find, list_any}
 use Rattle.std.specs.Option.{option_map_or}
 use Rattle.st_key.specs.Spans.{Span, key_less, within, holds}
@@ -245,3 +245,14 @@ is_whole piece = ends_in_base piece.phase
 -- a whole piece is sent to the versioned map at this version
 abbrev pub inject : ℕ → Piece → Piece
 inject version piece = if is_whole piece then in_phase (Waiting version) piece else piece
+
+-- the piece is fetched at a version below the newest
+abbrev pub is_behind : (newest : ℕ) → Piece → Bool
+is_behind newest piece = began_below piece.phase
+  where
+    began_below : Phase → Bool
+    began_below (Fetching at upto taken in_base) = nat_lt at newest
+    began_below (Absent since) = false
+    began_below (WaitPrevious since) = false
+    began_below (Waiting transferred) = false
+    began_below Readable = false

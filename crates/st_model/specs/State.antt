@@ -1,7 +1,7 @@
 -- The state of the machine of events, and its steps.
 use Rattle.std.specs.Prelude.{ℕ, ◌-◌, Bool, not, ◌&&◌, ◌||◌, ◌==◌, nat_lt, nat_le, List, [], ◌∷◌, ◌++◌, map, filter, fold, length, Option, Some, None, is_none, if◌then◌else◌}
 use Rattle.std.specs.List.{find, flat_map, list_any}
-use Rattle.st_key.specs.Spans.{Span}
+use Rattle.st_key.specs.Spans.{Span, holds}
 use Rattle.st_key.specs.Parts.{with_span, without_span}
 use Rattle.st_mutation.specs.declared.batch.Batch.{Batch}
 use Rattle.st_mutation.specs.declared.batch.Move.{Move}
@@ -9,7 +9,7 @@ use Rattle.st_mutation.specs.declared.batch.Move.TheVariants.{Assign, Release}
 use Rattle.st_fold.specs.declared.plan.Settings.{Settings}
 use Rattle.st_fold.specs.declared.report.Event.{Event}
 use Rattle.st_fold.specs.declared.report.Event.TheVariants.{Opened, Applied, FetchStart, Block, Split, Began, Durable, Watched, Unwatched, Closed, Killed}
-use Rattle.st_fold.specs.Map.{batches_to}
+use Rattle.st_fold.specs.Map.{Map, batches_to, folded}
 use Rattle.st_model.specs.declared.piece.Piece.{Piece}
 use Rattle.st_model.specs.Pieces.{span_of, first_pieces, move_piece, inject, begins, change_at, wants_fetch, start_piece, takes_block, block_piece, stops_at, split_piece, by_phase, rows_taken, rows_in_base, has_rows, waits_to, serves}
 
@@ -25,6 +25,10 @@ pub record Given : Type 0 where
 pub record Opening : Type 0 where
   pub version : ℕ
   pub available : List Span
+
+-- the pairs that are held where a life opens so: those of the log at its version, on the keys that are available
+abbrev pub base_of : List Batch → Opening → Map
+base_of log opening = filter (λ pair. holds opening.available pair.0) (folded log opening.version)
 
 -- a watch: its request's number, the key and the value, none for no value, and the newest version when it came
 pub record Watch : Type 0 where

@@ -18,9 +18,9 @@ pub use facts::{
     versions_are_in_order, versions_never_fall, watches_stay_within_their_limit,
 };
 pub use laws::{
-    acts_soundly, begins_soundly, closed_is_a_life, closed_life_is_demanded, faulted_is_a_life,
-    life_before_refused_memory_is_demanded, next_is_first_left, no_life_is_demanded,
-    none_open_is_all_answered, play_is_a_life, polls_lead_on, polls_soundly, readers_are_apart,
+    broken_off_is_a_life, closed_life_is_demanded, life_before_refused_memory_is_demanded,
+    next_is_first_left, no_life_is_demanded, plain_steps_are_steps, play_is_a_life,
+    schedules_make_one_life,
 };
 pub use partition::{
     cuts_part_the_keys, first_unreadable_is_least, moves_part_the_keys, one_piece_changes,

@@ -1,4 +1,3 @@
 pub use Rattle.st_key.specs.Spans
 pub mod Text
-pub mod WellFormed
 pub mod Forms

@@ -296,12 +296,12 @@ is_reader reader some = ne_eqb reader 0 (λ e. omega arith)
 
 plain_asked : (request : Request) → IsOfReader request → (plan : LifePlan) → IsPlainLife plan → IsPlainLife (add_request request plan)
 plain_asked request asked plan p =
-    rw (is_reader request.reader asked.least) (record { asks = all_push IsOfReader plan.asks request p.asks asked; lasts = p.lasts; dos = p.dos; no_kill = p.no_kill })
+    rw (is_reader request.reader asked.least) (record { asks = all_push IsOfReader plan.asks request p.asks asked; lasts = p.lasts; dos = p.dos; no_kill = p.no_kill; no_fails = p.no_fails })
 
 plain_last : (request : Request) → IsLast request → (plan : LifePlan) → IsPlainLife plan → IsPlainLife (add_request request plan)
 plain_last request last plan p =
     let none : (request.reader == 0) ≡ true = rw last.last refl in
-    rw none (record { asks = p.asks; lasts = all_push IsLast plan.lasts request p.lasts last; dos = p.dos; no_kill = p.no_kill })
+    rw none (record { asks = p.asks; lasts = all_push IsLast plan.lasts request p.lasts last; dos = p.dos; no_kill = p.no_kill; no_fails = p.no_fails })
 
 owns : (own : List Span) → is_empty own ≡ false → (own ≡ []) ⊎ OwnsAll own → OwnsAll own
 owns own some (inl none) = let no : true ≡ false = rw none at some in cc
@@ -375,7 +375,7 @@ sound-form draft form.Life words s now found =
       patience = s.patience;
       rises = s.rises;
       batches = s.batches;
-      stands = (found, (no_steps by.0, rw (none_from_empty draft.lives now) refl, record { asks = tt; lasts = tt; dos = tt; no_kill = refl }));
+      stands = (found, (no_steps by.0, rw (none_from_empty draft.lives now) refl, record { asks = tt; lasts = tt; dos = tt; no_kill = refl; no_fails = refl }));
     })
 sound-form draft form.Ask words s now found =
     bind_ok (SaidBy form.Ask) Sound (line_of form.Ask words) _ (said form.Ask words) (λ l by. rw by.2 (
@@ -395,6 +395,7 @@ sound-form draft form.Do words s now found =
           lasts = p.lasts;
           dos = all_push (λ line. IsOfSchedule line.0) plan.dos (by.0, by.1) p.dos by.3;
           no_kill = p.no_kill;
+          no_fails = p.no_fails;
         }) draft.lives found.2,
       );
     })

@@ -12,7 +12,7 @@ use Rattle.st_fold.specs.declared.report.Ending.TheVariants as ending
 use Rattle.st_fold.specs.declared.report.Fault.TheVariants as fault
 use Rattle.st_fold.specs.declared.report.Life.{Life}
 use Rattle.st_model.specs.Plain.{IsPlain, fresh_opening}
-use Rattle.st_model.specs.Report.{IsDemanded, IsLife}
+use Rattle.st_model.specs.Report.{Begun, IsDemanded, IsLife}
 use Rattle.st_model.specs.Schedule.{play}
 use Rattle.st_script.specs.Playable.{IsPlayable}
 use Rattle.st_report.specs.declared.report.Form.{Form}
@@ -24,16 +24,20 @@ use Rattle.storage_tool.specs.Tool.{IsReportOn, report_of}
 abbrev pub plain_script : Settings → List Batch → LifePlan → Script
 plain_script settings log plan = record { settings = settings; own = all_keys ∷ []; log = log; lives = plan ∷ [] }
 
+-- the only life of a report
+abbrev alone : LifePlan → Life → Begun
+alone plan life = record { plan = plan; opening = fresh_opening; life = life }
+
 module _ (settings : Settings) (log : List Batch) (plan : LifePlan)
     (is_life : IsLife (owning_all settings log plan.upto) fresh_opening plan (play (owning_all settings log plan.upto) fresh_opening plan))
-    (closed : (life : Life) → IsLife (owning_all settings log plan.upto) fresh_opening plan life → life.ending ≡ ending.Closed → IsDemanded (plain_script settings log plan) fresh_opening 0 None (life ∷ []))
-    (faulted : (life : Life) → IsLife (owning_all settings log plan.upto) fresh_opening plan life → IsDemanded (plain_script settings log plan) fresh_opening 9 (Some fault.Memory) (life ∷ [])) where
+    (closed : (life : Life) → IsLife (owning_all settings log plan.upto) fresh_opening plan life → life.ending ≡ ending.Closed → IsDemanded (plain_script settings log plan) fresh_opening 0 None (alone plan life ∷ []))
+    (faulted : (life : Life) → IsLife (owning_all settings log plan.upto) fresh_opening plan life → IsDemanded (plain_script settings log plan) fresh_opening 9 (Some fault.Memory) (alone plan life ∷ [])) where
   -- the report of a life that was cut short
   of_faulted : (shown : Form) (life : Life) → life.ending ≡ ending.Faulted → IsLife (owning_all settings log plan.upto) fresh_opening plan life → IsReportOn (plain_script settings log plan) shown (report_of shown life)
   of_faulted shown life e lived =
       let is : report_of shown life ≡ report_of shown (record life { ending = ending.Faulted }) = λ i. report_of shown (record life { ending = e i }) in
       subst (IsReportOn (plain_script settings log plan) shown) (sym is) (record {
-        reports = record { demanded = faulted (record life { ending = ending.Faulted }) (subst (IsLife (owning_all settings log plan.upto) fresh_opening plan) (λ i. record life { ending = e i }) lived); whole = inr tt };
+        reports = record { demanded = (alone plan (record life { ending = ending.Faulted }) ∷ [], refl, faulted (record life { ending = ending.Faulted }) (subst (IsLife (owning_all settings log plan.upto) fresh_opening plan) (λ i. record life { ending = e i }) lived)); whole = inr tt };
         form = refl;
         consistent = record { status = refl; lives = tt };
         fault = tt;
@@ -41,7 +45,7 @@ module _ (settings : Settings) (log : List Batch) (plan : LifePlan)
 
   pub of_life : (shown : Form) (life : Life) → IsPlayed (owning_all settings log plan.upto) plan life → IsReportOn (plain_script settings log plan) shown (report_of shown life)
   of_life shown life (inl e) = subst (λ l. IsReportOn (plain_script settings log plan) shown (report_of shown l)) (sym e) (record {
-    reports = record { demanded = closed (play (owning_all settings log plan.upto) fresh_opening plan) is_life refl; whole = inl (refl, refl) };
+    reports = record { demanded = (alone plan (play (owning_all settings log plan.upto) fresh_opening plan) ∷ [], refl, closed (play (owning_all settings log plan.upto) fresh_opening plan) is_life refl); whole = inl (refl, refl) };
     form = refl;
     consistent = record { status = refl; lives = tt };
     fault = tt;

@@ -1,5 +1,5 @@
 -- What a run of the tool promises of its report, of what it reads and of what it writes.
-use Rattle.std.specs.Prelude.{◌≡◌, ◌⊎◌, ℕ, ◌<◌, List, [], ◌∷◌, take, map, Option, Some, None, Ok, MatchResult}
+use Rattle.std.specs.Prelude.{◌≡◌, ◌⊎◌, ℕ, ◌<◌, List, [], ◌∷◌, take, length, map, Option, Some, None, Ok, MatchResult}
 use Rattle.std.specs.Io.KnownBytes.{Appends, IsAtEnd}
 use Rattle.st_fold.specs.declared.plan.Kind.{Kind}
 use Rattle.st_fold.specs.declared.plan.Script.{Script}
@@ -10,7 +10,8 @@ use Rattle.st_fold.specs.declared.report.Fault.TheVariants as fault
 use Rattle.st_fold.specs.declared.report.Life.{Life}
 use Rattle.st_io.specs.Faults.{Rose}
 use Rattle.st_io.specs.Source.{Takes}
-use Rattle.st_model.specs.Report.{IsDemanded, fresh, given_by, status_of}
+use Rattle.st_fold.specs.Endings.{status_of}
+use Rattle.st_model.specs.Report.{Begun, IsDemanded, fresh, given_by, lives_of}
 use Rattle.st_model.specs.Schedule.{play}
 use Rattle.st_script.specs.Reading.{script_of, max_bytes}
 use Rattle.st_report.specs.declared.report.Form.{Form}
@@ -37,12 +38,13 @@ IsInterruption (Some (fault.Foreign what)) = ⊥
 -- A report on a script: one that the script demands of an empty store. Unless the run was interrupted, it has no fault,
 -- and its lives are those that the script's schedules make
 pub record ReportsScript (script : Script) (report : Report) : Type 0 where
-  pub demanded : IsDemanded script (fresh script) report.status report.fault report.lives
+  pub demanded : (begun : List Begun) × (report.lives ≡ lives_of begun) × IsDemanded script (fresh script) report.status report.fault begun
   pub whole : ((report.fault ≡ None) × (report.lives ≡ played script)) ⊎ IsInterruption report.fault
 
--- a report on bytes that are no script: it tells the first fault, unless the run was interrupted
+-- a report on bytes that are no script: it has no lives, and tells the first fault, unless the run was interrupted
 abbrev pub ReportsFault : ℕ × Kind → Report → Type 0
-ReportsFault why report = (report.fault ≡ Some (fault.Script why.0 why.1)) ⊎ IsInterruption report.fault
+ReportsFault why report =
+    (report.lives ≡ []) × ((report.fault ≡ Some (fault.Script why.0 why.1)) ⊎ IsInterruption report.fault)
 
 -- a report on these bytes
 abbrev pub Reports : List ℕ → Report → Type 0
@@ -122,11 +124,16 @@ HasReadCause before now (Some fault.Memory) = Unit {0}
 HasReadCause before now (Some (fault.Full size limit)) = Unit {0}
 HasReadCause before now (Some (fault.Foreign what)) = Unit {0}
 
--- What a sink holds is followed by the report's text, and the status is the report's. Or by a part of the text from its
--- front: with status 5, which comes only where the sink's count of faults rose, or with 9 for want of memory
-pub record Writes (before now : Option (List ℕ)) (faults_before faults_now : ℕ) (report : Report) (status : ℕ) : Type 0 where
-  pub part : (n : ℕ) × Appends before now (take n (text_of report))
-  pub whole : ((status ≡ report.status) × Appends before now (text_of report)) ⊎ ((status ≡ 5) × Rose faults_before faults_now) ⊎ (status ≡ 9)
+-- what a sink holds is followed by a part of the report's text, from its front and not all of it
+abbrev pub AppendsPart : (before now : Option (List ℕ)) → Report → Type 0
+AppendsPart before now report = (n : ℕ) × (n < length (text_of report)) × Appends before now (take n (text_of report))
+
+-- What a sink holds is followed by the report's text, and the status is the report's. Or by a part of the text: with
+-- status 5, which comes only where the sink's count of faults rose, or with 9 for want of memory
+abbrev pub Writes : (before now : Option (List ℕ)) → (faults_before faults_now : ℕ) → Report → (status : ℕ) → Type 0
+Writes before now faults_before faults_now report status =
+    ((status ≡ report.status) × Appends before now (text_of report))
+    ⊎ (AppendsPart before now report × (((status ≡ 5) × Rose faults_before faults_now) ⊎ (status ≡ 9)))
 
 -- A script that is in the grammar, read and written without a fault that is counted, gives status 0 with all of its
 -- lives, or 9 for want of memory

@@ -2,7 +2,7 @@
 ghost use Rattle.std.specs.Io.KnownBytes.{Appends};
 ghost use Rattle.std.specs.Prelude.{◌≡◌, ◌≢◌, ◌<◌, ◌↔◌, [], ◌∷◌, length, map, vec_capacity, IsSome, IfSome, IfOk};
 ghost use Rattle.std.specs.String.{string_bytes};
-ghost use Rattle.st_model.specs.Report.{status_of};
+ghost use Rattle.st_fold.specs.Endings.{status_of};
 ghost use Rattle.st_script.specs.Playable.{IsPlayable};
 ghost use Rattle.storage_tool.specs.Command.{form_named, form_of};
 ghost use Rattle.storage_tool.specs.Tool.{HasReadCause, IsComplete, IsConsistent, IsOfScript, IsReadOut, IsReportOn, Reports, Writes, report_of};

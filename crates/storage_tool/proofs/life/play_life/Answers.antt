@@ -20,5 +20,5 @@ returns c =
     (played given plan c.play_to_end-ending.new.self c.play_to_end-ending.result
     (λ newest left run sound split. c.acts_soundly.ensures given (requests_of plan) newest left run plain sound split)
     (λ newest reader run sound. c.polls_soundly.ensures given (requests_of plan) newest reader run plain sound)
-    (c.begins_soundly.ensures given plan plain) plain.rises
+    (c.begins_soundly.ensures given plan plain c.requires.plain_life) plain.rises
     (λ newest run sound. c.faulted_is_a_life.ensures given plan newest run plain c.requires.plain_life sound) ends)

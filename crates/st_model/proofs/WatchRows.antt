@@ -1,0 +1,141 @@
+-- Worked scripts with watches, with the reports that they demand.
+use Rattle.std.proofs.Common.{◌≡◌, ℕ, true, false, List, [], ◌∷◌, Option, None, Some, refl}
+use Rattle.st_mutation.specs.declared.batch.Batch.{Batch}
+use Rattle.st_mutation.specs.declared.batch.Move.TheVariants.{Release}
+use Rattle.st_fold.specs.declared.plan.Act.TheVariants.{Apply}
+use Rattle.st_fold.specs.declared.plan.LifePlan.{LifePlan}
+use Rattle.st_fold.specs.declared.plan.Script.{Script}
+use Rattle.st_fold.specs.declared.report.Ending.TheVariants as ending
+use Rattle.st_fold.specs.declared.report.Event.{Event}
+use Rattle.st_fold.specs.declared.report.Event.TheVariants.{Opened, Applied, Watched, Unwatched}
+use Rattle.st_fold.specs.declared.report.Life.{Life}
+use Rattle.st_fold.specs.declared.request.Answer.TheVariants.{Fired, Waiting, WrongShard, TooManyWatches}
+use Rattle.st_fold.specs.declared.request.Ask.TheVariants as ask
+use Rattle.st_fold.specs.declared.request.Request.{Request}
+use Rattle.st_model.specs.Pieces.{all_keys}
+use Rattle.st_model.specs.Report.{IsDemanded, IsLife, fresh, given_by}
+use Rattle.st_model.specs.Schedule.{Plays, readers_at_end}
+use Rattle.st_model.proofs.Demands.{begun, closes, closes_alone}
+use Rattle.st_model.proofs.Played.{plays}
+use Rattle.st_model.proofs.RowParts.{all, answered, asks, batch, does, empty, key, life, life_to, poll, sets, settings, span, stage}
+
+abbrev watches : ℕ → ℕ → ℕ → Option (List ℕ) → Request
+watches number reader byte value = asks number reader (ask.Watch (key byte) value)
+
+-- ---- the value turns and turns back between two polls
+
+abbrev watching : LifePlan
+watching = record (life_to 3) {
+  asks = watches 1 1 97 (Some (key 65)) ∷ [];
+  dos = does Apply 1 ∷ poll 1 1 ∷ does Apply 2 ∷ poll 1 1 ∷ [];
+}
+
+abbrev watch_fires : Script
+watch_fires = record {
+  settings = settings;
+  own = all_keys ∷ [];
+  log = sets 1 97 65 ∷ sets 2 97 66 ∷ sets 3 97 65 ∷ [];
+  lives = watching ∷ [];
+}
+
+abbrev looked_twice : List Event
+looked_twice = Opened 0 ∷ Applied 1 ∷ Watched 1 (key 97) (Some (key 65)) ∷ Applied 2 ∷ Applied 3 ∷ Unwatched 1 ∷ []
+
+abbrev fired : Life
+fired = life 0 looked_twice (answered 1 (2 ∷ 5 ∷ []) (Fired 2) ∷ []) ending.Closed
+
+watch_fires_demanded : IsDemanded watch_fires (fresh watch_fires) 0 None (begun watching (all 0) fired ∷ [])
+watch_fires_demanded =
+    closes_alone watch_fires watching looked_twice fired.answers refl
+    (closes (given_by watch_fires watching) (all 0) watching looked_twice fired.answers (refl, refl, tt)
+    refl refl refl refl refl refl refl refl refl)
+
+watch_fires_played : Plays (stage watch_fires watching (all 0) 10) fired
+unfolding readers_at_end
+watch_fires_played = plays (stage watch_fires watching (all 0) 10) 100 refl refl
+
+-- ---- the key is taken away
+
+abbrev watch_lost : Script
+watch_lost = record watch_fires { log = sets 1 97 65 ∷ batch 2 (Release (span (key 97) (key 98)) ∷ []) [] ∷ sets 3 97 65 ∷ [] }
+
+abbrev lost : Life
+lost = life 0 looked_twice (answered 1 (2 ∷ 5 ∷ []) (WrongShard (key 97)) ∷ []) ending.Closed
+
+watch_lost_demanded : IsDemanded watch_lost (fresh watch_lost) 0 None (begun watching (all 0) lost ∷ [])
+watch_lost_demanded =
+    closes_alone watch_lost watching looked_twice lost.answers refl
+    (closes (given_by watch_lost watching) (all 0) watching looked_twice lost.answers (refl, refl, tt)
+    refl refl refl refl refl refl refl refl refl)
+
+watch_lost_played : Plays (stage watch_lost watching (all 0) 10) lost
+unfolding readers_at_end
+watch_lost_played = plays (stage watch_lost watching (all 0) 10) 100 refl refl
+
+-- ---- one watch alone may stand
+
+abbrev watching_both : LifePlan
+watching_both = record (life_to 0) {
+  asks = watches 1 1 97 None ∷ watches 2 2 98 None ∷ [];
+  dos = poll 1 1 ∷ poll 2 1 ∷ [];
+}
+
+abbrev one_watch : Script
+one_watch = record { settings = record settings { watches = 1 }; own = all_keys ∷ []; log = []; lives = watching_both ∷ [] }
+
+abbrev watched_once : List Event
+watched_once = Opened 0 ∷ Watched 1 (key 97) None ∷ Unwatched 1 ∷ []
+
+abbrev one_stood : Life
+one_stood = life 0 watched_once (answered 1 (1 ∷ 2 ∷ 2 ∷ []) Waiting ∷ answered 2 (2 ∷ []) (TooManyWatches 1) ∷ []) ending.Closed
+
+one_watch_demanded : IsDemanded one_watch (fresh one_watch) 0 None (begun watching_both (all 0) one_stood ∷ [])
+one_watch_demanded =
+    closes_alone one_watch watching_both watched_once one_stood.answers refl
+    (closes (given_by one_watch watching_both) (all 0) watching_both watched_once one_stood.answers (refl, refl, (refl, refl, tt))
+    refl refl refl refl refl refl refl refl refl)
+
+one_watch_played : Plays (stage one_watch watching_both (all 0) 10) one_stood
+unfolding readers_at_end
+one_watch_played = plays (stage one_watch watching_both (all 0) 10) 100 refl refl
+
+-- ---- two watches of one reader, the second registered by the poll after the one that answered the first
+
+abbrev watching_twice : LifePlan
+watching_twice = record (life_to 2) {
+  asks = watches 1 1 97 None ∷ watches 2 1 97 (Some (key 49)) ∷ [];
+  dos = poll 1 1 ∷ does Apply 2 ∷ poll 1 1 ∷ poll 1 1 ∷ [];
+}
+
+abbrev watch_polls : Script
+watch_polls = record { settings = settings; own = all_keys ∷ []; log = sets 1 97 49 ∷ empty 2 ∷ []; lives = watching_twice ∷ [] }
+
+abbrev one_after_the_other : List Event
+one_after_the_other =
+    Opened 0 ∷ Watched 1 (key 97) None ∷ Applied 1 ∷ Applied 2 ∷ Unwatched 1 ∷ Watched 2 (key 97) (Some (key 49)) ∷ Unwatched 2 ∷ []
+
+abbrev both_watched : Life
+both_watched = life 0 one_after_the_other (answered 1 (1 ∷ 4 ∷ []) (Fired 1) ∷ answered 2 (5 ∷ 6 ∷ 6 ∷ []) Waiting ∷ []) ending.Closed
+
+watch_polls_demanded : IsDemanded watch_polls (fresh watch_polls) 0 None (begun watching_twice (all 0) both_watched ∷ [])
+watch_polls_demanded =
+    closes_alone watch_polls watching_twice one_after_the_other both_watched.answers refl
+    (closes (given_by watch_polls watching_twice) (all 0) watching_twice one_after_the_other both_watched.answers (refl, refl, (refl, refl, tt))
+    refl refl refl refl refl refl refl refl refl)
+
+watch_polls_played : Plays (stage watch_polls watching_twice (all 0) 10) both_watched
+unfolding readers_at_end
+watch_polls_played = plays (stage watch_polls watching_twice (all 0) 10) 100 refl refl
+
+-- ---- reports of these scripts that aren't demanded
+
+-- a watch that no request made
+watches_unasked : IsLife (given_by watch_fires watching) (all 0) watching
+    (life 0 (Opened 0 ∷ Applied 1 ∷ Watched 1 (key 97) (Some (key 65)) ∷ Applied 2 ∷ Applied 3 ∷ Unwatched 1 ∷ Watched 2 (key 98) None ∷ [])
+    fired.answers ending.Closed) → ⊥
+watches_unasked is_life = let e : false ≡ true = is_life.named in cc
+
+-- one that was answered by its second poll and not released
+not_released : IsLife (given_by watch_fires watching) (all 0) watching
+    (life 0 (Opened 0 ∷ Applied 1 ∷ Watched 1 (key 97) (Some (key 65)) ∷ Applied 2 ∷ Applied 3 ∷ []) fired.answers ending.Closed) → ⊥
+not_released is_life = is_life.answered.1

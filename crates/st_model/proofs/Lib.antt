@@ -12,6 +12,7 @@ mod Dropped
 mod Drops
 mod FetchRows
 mod Forms
+mod EndsPolls
 mod Keeping
 mod Lists
 mod Lives

@@ -107,10 +107,10 @@ module _ (given : Given) (opening : Opening) (trace : List Event) (ask : Ask) wh
 -- ---- sessions
 
 -- what a poll of a request at a version leads to
-abbrev told : Given → State → Session → Option Answer
+abbrev pub told : Given → State → Session → Option Answer
 told given state session = answer_to given.settings.patience (length session.places + 1) (reply given.log state session.request.ask)
 
-poll_versioned : (given : Given) (state : State) (session : Session) → is_watch session.request.ask ≡ false
+pub poll_versioned : (given : Given) (state : State) (session : Session) → is_watch session.request.ask ≡ false
     → poll_of given state session ≡ record { answer = told given state session; events = [] }
 poll_versioned given state session versioned = by_ask session.request.ask versioned
   where

@@ -1,6 +1,6 @@
 -- What a written schedule makes of a life.
-use Rattle.std.specs.Prelude.{◌≡◌, ℕ, zero, suc, ◌+◌, Bool, true, false, not, ◌&&◌, ◌||◌, ◌==◌, nat_lt, nat_le, List, [], ◌∷◌, ◌++◌, map, filter, drop, length, slice_get, max, Option, Some, None, is_none, unwrap_or, if◌then◌else◌}
-use Rattle.std.specs.List.{find, fold, list_any, range_with_len}
+use Rattle.std.specs.Prelude.{◌≡◌, ℕ, zero, suc, ◌+◌, ◌-◌, ◌<◌, ◌≤◌, Bool, true, false, not, ◌&&◌, ◌||◌, ◌==◌, nat_lt, nat_le, List, [], ◌∷◌, ◌++◌, map, filter, drop, length, slice_get, max, Option, Some, None, is_none, unwrap_or, if◌then◌else◌}
+use Rattle.std.specs.List.{AllByRecursion, find, fold, list_any, range_with_len}
 use Rattle.std.specs.Option.{option_map, option_map_or}
 use Rattle.st_mutation.specs.declared.batch.Batch.{Batch}
 use Rattle.st_fold.specs.declared.plan.Act.{Act}
@@ -21,12 +21,12 @@ use Rattle.st_fold.specs.declared.request.Ask.TheVariants as ask
 use Rattle.st_fold.specs.declared.request.Request.{Request}
 use Rattle.st_fold.specs.Endings.{last_event}
 use Rattle.st_fold.specs.Map.{Map, folded}
-use Rattle.st_fold.specs.Reading.{pairs_in}
+use Rattle.st_fold.specs.Reading.{is_watch, pairs_in}
 use Rattle.st_model.specs.declared.piece.Piece.{Piece}
 use Rattle.st_model.specs.declared.piece.Phase.{Phase}
 use Rattle.st_model.specs.declared.piece.Phase.TheVariants.{Absent, WaitPrevious, Fetching, Waiting, Readable}
 use Rattle.st_model.specs.Pieces.{serves}
-use Rattle.st_model.specs.State.{Given, Opening, State, Watch, first_state, step}
+use Rattle.st_model.specs.State.{Given, Opening, State, Watch, first_state, is_registered, step}
 use Rattle.st_model.specs.Trace.{due, event_by}
 use Rattle.st_model.specs.Reply.{reply}
 use Rattle.st_model.specs.Session.{answer_to}
@@ -330,3 +330,31 @@ Plays {E = E} stage life =
 abbrev pub BreaksOff : {E : Type 0} → Stage E → Life → Type 0
 BreaksOff {E = E} stage life =
     (last : Progress E) × LeadsTo stage (begin stage) last × (last.halt ≡ None) × (life ≡ life_of stage last ending.Faulted)
+
+-- ---- how many polls are left
+
+-- how many more polls a session may take: of so many as `patience` says, the last gives the answer
+abbrev pub polls_to_come : (patience : ℕ) → Session → ℕ
+polls_to_come patience session = if is_none session.answer then patience - length session.places else 0
+
+-- how many more polls all of these may take
+abbrev pub polls_left : (patience : ℕ) → List Session → ℕ
+polls_left patience [] = 0
+polls_left patience (session ∷ later) = polls_to_come patience session + polls_left patience later
+
+-- each request has another number than the later ones
+abbrev pub AreNumbered : List Request → Type 0
+AreNumbered [] = Unit {0}
+AreNumbered (request ∷ later) = AllByRecursion (λ other. request.number == other.number ≡ false) later × AreNumbered later
+
+-- a session that is open was polled fewer times than `patience` says, and if it is of a watch that was polled, the watch
+-- stands
+pub record IsPatient (patience : ℕ) (watches : List Watch) (session : Session) : Type 0 where
+  pub fewer : session.answer ≡ None → length session.places < patience
+  pub stands : session.answer ≡ None → is_watch session.request.ask ≡ true → 1 ≤ length session.places
+      → is_registered session.request.number watches ≡ true
+
+-- all of these are so, and no two have the same number
+pub record ArePatient (patience : ℕ) (watches : List Watch) (sessions : List Session) : Type 0 where
+  pub each : AllByRecursion (IsPatient patience watches) sessions
+  pub apart : AreNumbered (map (λ session. session.request) sessions)

@@ -1,0 +1,17 @@
+//! Laws that what a schedule makes comes to an end.
+ghost use Rattle.std.specs.Prelude.{◌≡◌, ◌<◌, ℕ, List, IsTrue};
+ghost use Rattle.st_model.specs.Schedule.{ArePatient, Progress, Session, Stage, do_poll, has_open, poll_first, polls_left};
+ghost use Rattle.st_model.specs.State.{Given, State};
+
+/// A poll of a reader that has an open request leaves fewer polls to make, and no session that is polled too often.
+pub fn polls_come_to_an_end<E>()
+    ensures fewer { (given : Given) (reader place : ℕ) (state : State) (sessions : List Session)
+        → ArePatient given.settings.patience state.watches sessions → IsTrue (has_open reader sessions)
+        → polls_left given.settings.patience (poll_first given reader place state sessions)
+        < polls_left given.settings.patience sessions }
+    ensures kept { (stage : Stage E) (progress : Progress E) (reader : ℕ)
+        → ArePatient stage.given.settings.patience progress.state.watches progress.sessions
+        → IsTrue (has_open reader progress.sessions)
+        → ArePatient stage.given.settings.patience (do_poll stage progress reader).state.watches
+        (do_poll stage progress reader).sessions }
+{}

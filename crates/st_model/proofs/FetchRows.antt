@@ -21,7 +21,7 @@ use Rattle.st_model.proofs.Played.{plays}
 use Rattle.st_model.proofs.RowParts.{answered, batch, does, empty, flush, gets, key, life, life_to, poll, settings, span, stage}
 
 -- the server owns the keys below a, and a batch gives it the others
-abbrev below_a : Span
+abbrev pub below_a : Span
 below_a = span [] (key 97)
 
 abbrev from_a : Span
@@ -29,7 +29,7 @@ from_a = span (key 97) (key 255)
 
 -- ---- a piece is fetched in two blocks while a batch comes, and is read once it is durable
 
-abbrev fetching : LifePlan
+abbrev pub fetching : LifePlan
 fetching = record (life_to 5) {
   asks = gets 1 1 98 4 ∷ gets 2 1 98 4 ∷ gets 3 1 97 5 ∷ [];
   dos =
@@ -37,7 +37,7 @@ fetching = record (life_to 5) {
       ∷ poll 1 1 ∷ does act.Apply 1 ∷ flush ∷ poll 1 2 ∷ [];
 }
 
-abbrev shard_fetch : Script
+abbrev pub shard_fetch : Script
 shard_fetch = record {
   settings = record settings { window = 1; block = 2 };
   own = below_a ∷ [];
@@ -47,12 +47,12 @@ shard_fetch = record {
   lives = fetching ∷ [];
 }
 
-abbrev two_blocks : List Event
+abbrev pub two_blocks : List Event
 two_blocks =
     Opened 0 ∷ Applied 1 ∷ Applied 2 ∷ FetchStart (key 97) 2 ∷ Block (key 97) (key 99) ∷ Applied 3 ∷ Block (key 97) (key 255)
     ∷ Began 2 ∷ Durable 2 ∷ Applied 4 ∷ Applied 5 ∷ Began 4 ∷ Durable 4 ∷ []
 
-abbrev fetched : Life
+abbrev pub fetched : Life
 fetched = life 0 two_blocks
     (answered 1 (10 ∷ []) (WrongShard (key 98)) ∷ answered 2 (13 ∷ []) (Value (key 57)) ∷ answered 3 (13 ∷ []) (Value (key 49)) ∷ [])
     ending.Closed

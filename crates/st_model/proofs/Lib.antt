@@ -5,6 +5,7 @@ mod Bits
 mod CommitRows
 mod Commits
 mod Counts
+mod CrashRows
 mod Cuts
 mod Demands
 mod DropRows

@@ -1,5 +1,5 @@
 -- Worked scripts in which keys are taken away and given back, over two lives, with the reports that they demand.
-use Rattle.std.proofs.Common.{◌≡◌, ℕ, true, false, List, [], ◌∷◌, length, None, Some, refl, ap, subst, inl, inr, arith, le_refl}
+use Rattle.std.proofs.Common.{◌≡◌, true, false, List, [], ◌∷◌, length, None, Some, refl, ap, subst, inl, inr, arith, le_refl}
 use Rattle.std.specs.Option.{option_map_or}
 use Rattle.st_key.specs.Spans.{Span}
 use Rattle.st_mutation.specs.declared.batch.Move.TheVariants.{Assign, Release}

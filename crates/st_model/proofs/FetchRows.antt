@@ -1,5 +1,5 @@
 -- Worked scripts in which keys are fetched, with the reports that they demand.
-use Rattle.std.proofs.Common.{◌≡◌, ℕ, true, false, List, [], ◌∷◌, None, Some, refl, arith, le_refl}
+use Rattle.std.proofs.Common.{◌≡◌, true, false, List, [], ◌∷◌, None, Some, refl, arith, le_refl}
 use Rattle.st_atomic.specs.declared.AtomicOp.TheVariants.{Add}
 use Rattle.st_key.specs.Spans.{Span}
 use Rattle.st_mutation.specs.declared.batch.Move.TheVariants.{Assign}

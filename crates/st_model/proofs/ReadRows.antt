@@ -1,5 +1,5 @@
 -- Worked scripts whose lives are read and closed, with the reports that they demand.
-use Rattle.std.proofs.Common.{◌≡◌, ℕ, false, List, [], ◌∷◌, length, None, Some, refl, ap, inl, arith}
+use Rattle.std.proofs.Common.{◌≡◌, false, List, [], ◌∷◌, length, None, Some, refl, ap, inl, arith}
 use Rattle.st_fold.specs.declared.plan.Act.TheVariants.{Apply}
 use Rattle.st_fold.specs.declared.plan.LifePlan.{LifePlan}
 use Rattle.st_fold.specs.declared.plan.Script.{Script}

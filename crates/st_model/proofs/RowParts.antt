@@ -1,12 +1,11 @@
 -- What the worked scripts and reports are made of. The keys a, b, c and d are the bytes 97 to 100.
-use Rattle.std.specs.Prelude.{ℕ, zero, suc, List, [], ◌∷◌, ◌++◌, Option, None}
+use Rattle.std.specs.Prelude.{ℕ, List, [], ◌∷◌, ◌++◌, None}
 use Rattle.st_key.specs.Spans.{Span}
 use Rattle.st_mutation.specs.declared.batch.Batch.{Batch}
 use Rattle.st_mutation.specs.declared.batch.Move.{Move}
 use Rattle.st_mutation.specs.declared.batch.Mutation.{Mutation}
 use Rattle.st_mutation.specs.declared.batch.Mutation.TheVariants.{Set}
 use Rattle.st_fold.specs.declared.plan.Act.{Act}
-use Rattle.st_fold.specs.declared.plan.Act.TheVariants as act
 use Rattle.st_fold.specs.declared.plan.Do.{Do}
 use Rattle.st_fold.specs.declared.plan.Do.TheVariants as step_of
 use Rattle.st_fold.specs.declared.plan.LifePlan.{LifePlan}

@@ -1,6 +1,5 @@
 -- Worked scripts with watches, with the reports that they demand.
 use Rattle.std.proofs.Common.{◌≡◌, ℕ, true, false, List, [], ◌∷◌, Option, None, Some, refl}
-use Rattle.st_mutation.specs.declared.batch.Batch.{Batch}
 use Rattle.st_mutation.specs.declared.batch.Move.TheVariants.{Release}
 use Rattle.st_fold.specs.declared.plan.Act.TheVariants.{Apply}
 use Rattle.st_fold.specs.declared.plan.LifePlan.{LifePlan}

@@ -25,17 +25,17 @@ use Rattle.st_model.proofs.RowParts.{all, answered, batch, does, empty, flush, g
 abbrev only_a : Span
 only_a = span (key 97) (key 98)
 
-abbrev losing : LifePlan
+abbrev pub losing : LifePlan
 losing = record (life_to 4) {
   asks = gets 1 1 97 4 ∷ [];
   dos = does act.Apply 4 ∷ flush ∷ does act.Start 1 ∷ poll 1 1 ∷ [];
   kill = Some (10, 0);
 }
 
-abbrev regaining : LifePlan
+abbrev pub regaining : LifePlan
 regaining = record (life_to 9) { asks = gets 2 1 97 1 ∷ []; lasts = gets 3 0 97 9 ∷ []; dos = poll 1 1 ∷ [] }
 
-abbrev drop_and_reassign : Script
+abbrev pub drop_and_reassign : Script
 drop_and_reassign = record {
   settings = record settings { window = 3 };
   own = all_keys ∷ [];
@@ -45,7 +45,7 @@ drop_and_reassign = record {
   lives = losing ∷ regaining ∷ [];
 }
 
-abbrev four_applied : List Event
+abbrev pub four_applied : List Event
 four_applied = Opened 0 ∷ Applied 1 ∷ Applied 2 ∷ Applied 3 ∷ Applied 4 ∷ Began 1 ∷ Durable 1 ∷ []
 
 abbrev lost : Life
@@ -56,7 +56,7 @@ loses_legally =
     dies_at_rest (given_by drop_and_reassign losing) (all 0) losing four_applied lost.answers 10 0 (refl, refl, tt)
     refl refl refl refl refl refl refl refl
 
-abbrev fetched_again : List Event
+abbrev pub fetched_again : List Event
 fetched_again =
     Opened 1 ∷ Applied 2 ∷ Applied 3 ∷ Applied 4 ∷ Applied 5 ∷ Began 2 ∷ Durable 2 ∷ FetchStart (key 97) 5 ∷ Block (key 97) (key 98)
     ∷ Began 2 ∷ Durable 2 ∷ Applied 6 ∷ Began 3 ∷ Durable 3 ∷ Applied 7 ∷ Began 4 ∷ Durable 4 ∷ Applied 8 ∷ Began 5 ∷ Durable 5

@@ -97,13 +97,13 @@ block_fails_played = plays (stage block_fails failing (fresh block_fails) 10) 10
 abbrev adds_one : Mutation
 adds_one = Atomic Add (key 97) (key 1)
 
-abbrev adding : LifePlan
+abbrev pub adding : LifePlan
 adding = record (life_to 5) {
   asks = gets 1 1 97 4 ∷ [];
   dos = does act.Apply 2 ∷ does act.Start 1 ∷ does act.Block 1 ∷ does act.Apply 1 ∷ flush ∷ does act.Apply 2 ∷ flush ∷ poll 1 1 ∷ [];
 }
 
-abbrev held_atomics : Script
+abbrev pub held_atomics : Script
 held_atomics = record {
   settings = record settings { window = 1 };
   own = below_a ∷ [];
@@ -112,7 +112,7 @@ held_atomics = record {
   lives = adding ∷ [];
 }
 
-abbrev one_block : List Event
+abbrev pub one_block : List Event
 one_block =
     Opened 0 ∷ Applied 1 ∷ Applied 2 ∷ FetchStart (key 97) 2 ∷ Block (key 97) (key 255) ∷ Applied 3 ∷ Began 2 ∷ Durable 2 ∷ Applied 4
     ∷ Applied 5 ∷ Began 4 ∷ Durable 4 ∷ []
@@ -132,7 +132,7 @@ held_atomics_played = plays (stage held_atomics adding (fresh held_atomics) 10) 
 
 -- ---- a source that has forgotten the version of a fetch
 
-abbrev splitting : LifePlan
+abbrev pub splitting : LifePlan
 splitting = record (life_to 6) {
   asks = gets 1 1 97 5 ∷ gets 2 1 98 5 ∷ [];
   dos =
@@ -141,7 +141,7 @@ splitting = record (life_to 6) {
   cuts = 1 ∷ [];
 }
 
-abbrev too_old_split : Script
+abbrev pub too_old_split : Script
 too_old_split = record {
   settings = record settings { window = 1; block = 1 };
   own = below_a ∷ [];
@@ -151,7 +151,7 @@ too_old_split = record {
   lives = splitting ∷ [];
 }
 
-abbrev split_once : List Event
+abbrev pub split_once : List Event
 split_once =
     Opened 0 ∷ Applied 1 ∷ Applied 2 ∷ FetchStart (key 97) 2 ∷ Block (key 97) (key 98) ∷ Applied 3 ∷ Split (key 97) (key 98)
     ∷ Began 2 ∷ Durable 2 ∷ Applied 4 ∷ FetchStart (key 98) 4 ∷ Block (key 98) (key 255) ∷ Began 3 ∷ Durable 3 ∷ Applied 5

@@ -5,7 +5,7 @@ use Rattle.st_fold.specs.declared.plan.LifePlan.{LifePlan}
 use Rattle.st_fold.specs.declared.plan.Script.{Script}
 use Rattle.st_fold.specs.declared.report.Ending.TheVariants as ending
 use Rattle.st_fold.specs.declared.report.Event.{Event}
-use Rattle.st_fold.specs.declared.report.Event.TheVariants.{Opened, Applied, Began, Durable}
+use Rattle.st_fold.specs.declared.report.Event.TheVariants.{Opened, Applied, Began, Durable, Watched}
 use Rattle.st_fold.specs.declared.report.Fault.TheVariants as fault
 use Rattle.st_fold.specs.declared.report.Life.{Life}
 use Rattle.st_fold.specs.declared.request.Answer.TheVariants.{Value, TooOld, FutureVersion, WrongShard, Stopped}
@@ -13,6 +13,7 @@ use Rattle.st_fold.specs.declared.request.Ask.TheVariants as ask
 use Rattle.st_model.specs.Pieces.{all_keys}
 use Rattle.st_model.specs.Report.{Begun, IsDemanded, IsLife, fresh, given_by}
 use Rattle.st_model.specs.Schedule.{Plays, readers_at_end}
+use Rattle.st_model.specs.Trace.{state_after}
 use Rattle.st_model.proofs.Demands.{begun, closes, closes_alone, two_lives}
 use Rattle.st_model.proofs.Played.{plays}
 use Rattle.st_model.proofs.RowParts.{all, answered, asks, does, empty, flush, gets, key, life, life_to, poll, sets, settings, span, stage}
@@ -150,6 +151,9 @@ not_held_demanded =
 not_held_played : Plays (stage not_held asking_beside (fresh not_held) 10) refused
 unfolding readers_at_end
 not_held_played = plays (stage not_held asking_beside (fresh not_held) 10) 100 refl refl
+
+watched_beside : state_after (given_by not_held asking_beside) (fresh not_held) (Opened 0 ∷ Applied 1 ∷ Watched 1 (key 98) None ∷ []) ≡ None
+watched_beside = refl
 
 -- ---- reports of these scripts that aren't demanded
 

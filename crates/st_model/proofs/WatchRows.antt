@@ -1,19 +1,25 @@
 -- Worked scripts with watches, with the reports that they demand.
-use Rattle.std.proofs.Common.{◌≡◌, ℕ, true, false, List, [], ◌∷◌, Option, None, Some, refl}
+use Rattle.std.proofs.Common.{◌≡◌, ℕ, true, false, List, [], ◌∷◌, ◌++◌, map, Option, None, Some, refl}
 use Rattle.st_mutation.specs.declared.batch.Move.TheVariants.{Release}
+use Rattle.st_mutation.specs.declared.batch.Mutation.TheVariants.{Set}
 use Rattle.st_fold.specs.declared.plan.Act.TheVariants.{Apply}
 use Rattle.st_fold.specs.declared.plan.LifePlan.{LifePlan}
 use Rattle.st_fold.specs.declared.plan.Script.{Script}
 use Rattle.st_fold.specs.declared.report.Ending.TheVariants as ending
 use Rattle.st_fold.specs.declared.report.Event.{Event}
-use Rattle.st_fold.specs.declared.report.Event.TheVariants.{Opened, Applied, Watched, Unwatched}
+use Rattle.st_fold.specs.declared.report.Event.TheVariants.{Opened, Applied, Watched, Unwatched, Closed, Killed}
 use Rattle.st_fold.specs.declared.report.Life.{Life}
-use Rattle.st_fold.specs.declared.request.Answer.TheVariants.{Fired, Waiting, WrongShard, TooManyWatches}
+use Rattle.st_fold.specs.declared.request.Answer.TheVariants.{Fired, Waiting, WrongShard, TooManyWatches, Stopped}
 use Rattle.st_fold.specs.declared.request.Ask.TheVariants as ask
 use Rattle.st_fold.specs.declared.request.Request.{Request}
+use Rattle.st_model.specs.declared.piece.Phase.TheVariants as phase
 use Rattle.st_model.specs.Pieces.{all_keys}
 use Rattle.st_model.specs.Report.{IsDemanded, IsLife, fresh, given_by}
 use Rattle.st_model.specs.Schedule.{Plays, readers_at_end}
+use Rattle.st_model.specs.Session.{over, never}
+use Rattle.st_model.specs.State.{Given}
+use Rattle.st_model.specs.Trace.{state_after, state_at}
+use Rattle.st_model.specs.Watching.{Demanded, led_to, names}
 use Rattle.st_model.proofs.Demands.{begun, closes, closes_alone}
 use Rattle.st_model.proofs.Played.{plays}
 use Rattle.st_model.proofs.RowParts.{all, answered, asks, batch, does, empty, key, life, life_to, poll, sets, settings, span, stage}
@@ -125,6 +131,76 @@ watch_polls_demanded =
 watch_polls_played : Plays (stage watch_polls watching_twice (all 0) 10) both_watched
 unfolding readers_at_end
 watch_polls_played = plays (stage watch_polls watching_twice (all 0) 10) 100 refl refl
+
+-- ---- other polls of these watches
+
+abbrev turning : Given
+turning = given_by watch_fires watching
+
+abbrev watched_legally : List Event
+watched_legally = looked_twice ++ Closed ∷ []
+
+-- where the watch stands
+watch_stands : state_at turning (all 0) watched_legally 3
+    ≡ Some (record {
+      newest = 1;
+      oldest = 0;
+      durable = 0;
+      available = all_keys ∷ [];
+      flight = None;
+      pieces = record { begin = []; end = key 255; phase = phase.Readable } ∷ [];
+      watches = record { number = 1; key = key 97; value = Some (key 65); since = 1 } ∷ [];
+    })
+watch_stands = refl
+
+-- polled once more after its answer, or registered elsewhere
+polled_on : led_to turning (all 0) watched_legally (watches 1 1 97 (Some (key 65))) (2 ∷ 5 ∷ 5 ∷ []) ≡ never
+polled_on = refl
+
+registered_elsewhere : led_to turning (all 0) watched_legally (watches 1 1 97 (Some (key 65))) (1 ∷ 5 ∷ []) ≡ never
+registered_elsewhere = refl
+
+-- cut short while it waits
+cut_short : Demanded true turning (all 0) (Opened 0 ∷ Applied 1 ∷ Watched 1 (key 97) (Some (key 65)) ∷ Killed ∷ [])
+    (watches 1 1 97 (Some (key 65))) (2 ∷ 3 ∷ []) Stopped
+cut_short = refl
+
+named : map (λ event. names (watches 1 1 97 (Some (key 65))) (2 ∷ 5 ∷ []) 2 event)
+    (Watched 1 (key 97) (Some (key 65)) ∷ Watched 2 (key 97) (Some (key 65)) ∷ Watched 1 (key 97) None ∷ Unwatched 1 ∷ [])
+    ≡ true ∷ false ∷ false ∷ false ∷ []
+named = refl
+
+-- the batch that takes the key away turns its value too: it is lost then
+loses_at_once : led_to
+    (record turning {
+      log = sets 1 97 65 ∷ batch 2 (Release (span (key 97) (key 98)) ∷ []) (Set (key 97) (key 66) ∷ []) ∷ empty 3 ∷ [];
+    })
+    (all 0) watched_legally (watches 1 1 97 (Some (key 65))) (2 ∷ 5 ∷ []) ≡ over (WrongShard (key 97))
+loses_at_once = refl
+
+-- a watch of a key that isn't served, refused at its first poll, and never registered
+refused : led_to (given_by watch_lost watching) (all 0) (Opened 0 ∷ Applied 1 ∷ Applied 2 ∷ Applied 3 ∷ Closed ∷ []) (watches 1 1 97 None) (4 ∷ [])
+    ≡ over (WrongShard (key 97))
+refused = refl
+
+watched_unserved : state_after (given_by watch_lost watching) (all 0) (Opened 0 ∷ Applied 1 ∷ Applied 2 ∷ Watched 1 (key 97) None ∷ []) ≡ None
+watched_unserved = refl
+
+-- one watch more than may stand, one that stands already, and one that is released twice
+too_many : state_after (given_by one_watch watching_both) (all 0) (Opened 0 ∷ Watched 1 (key 97) None ∷ Watched 2 (key 98) None ∷ []) ≡ None
+too_many = refl
+
+watched_twice : state_after turning (all 0) (Opened 0 ∷ Watched 1 (key 97) None ∷ Watched 1 (key 97) None ∷ []) ≡ None
+watched_twice = refl
+
+unwatched_twice : state_after turning (all 0) (Opened 0 ∷ Watched 1 (key 97) None ∷ Unwatched 1 ∷ Unwatched 1 ∷ []) ≡ None
+unwatched_twice = refl
+
+-- a watch that fires at its first poll is released by the event after its registration
+fires_at_once : led_to (given_by watch_polls watching_twice) (all 0) (Opened 0 ∷ Applied 1 ∷ Watched 1 (key 97) None ∷ Unwatched 1 ∷ [])
+    (watches 1 1 97 None) (2 ∷ [])
+    ≡ over (Fired 1)
+fires_at_once = refl
 
 -- ---- reports of these scripts that aren't demanded
 

@@ -26,7 +26,7 @@ use Rattle.st_model.proofs.Lists.{all_append, all_map}
 -- ---- the first piece that passes a test
 
 -- it is the one that begins where it begins
-found_begins : (test other : Piece → Bool) (a b : List ℕ) (ps : List Piece) (p : Piece) → Follow a b ps → find test ps ≡ Some p → other p ≡ true
+pub found_begins : (test other : Piece → Bool) (a b : List ℕ) (ps : List Piece) (p : Piece) → Follow a b ps → find test ps ≡ Some p → other p ≡ true
     → begins other p.begin ps ≡ true
 found_begins test other a b [] p follow e passes = cc
 found_begins test other a b (q ∷ ps) p follow e passes =
@@ -56,7 +56,7 @@ found_begins test other a b (q ∷ ps) p follow e passes =
         ]
         e
 
-found_passes : (test : Piece → Bool) (ps : List Piece) (p : Piece) → find test ps ≡ Some p → test p ≡ true
+pub found_passes : (test : Piece → Bool) (ps : List Piece) (p : Piece) → find test ps ≡ Some p → test p ≡ true
 found_passes test [] p e = cc
 found_passes test (q ∷ ps) p e =
     elim (test q) as (λ v. test q ≡ v → cond v (Some q) (find test ps) ≡ Some p → test p ≡ true) [
@@ -82,11 +82,11 @@ none_begins test other narrower begin (q ∷ ps) e =
 
 -- ---- what an act makes may come
 
-some_of : {A B : Type 0} (f : A → B) (o : Option A) (y : B) → option_map f o ≡ Some y → (x : A) × (o ≡ Some x) × (f x ≡ y)
+pub some_of : {A B : Type 0} (f : A → B) (o : Option A) (y : B) → option_map f o ≡ Some y → (x : A) × (o ≡ Some x) × (f x ≡ y)
 some_of f None y e = cc
 some_of f (Some x) y e = let same : f x ≡ y = cc in (x, refl, same)
 
-none_of : {A B : Type 0} (f : A → B) (o : Option A) → option_map f o ≡ None → o ≡ None
+pub none_of : {A B : Type 0} (f : A → B) (o : Option A) → option_map f o ≡ None → o ≡ None
 none_of f None e = refl
 none_of f (Some x) e = cc
 
@@ -222,7 +222,7 @@ apart_without number (watch ∷ watches) apart =
     (λ _. (unregistered_still number watch.number watches apart.0, apart_without number watches apart.1))
     (λ _. apart_without number watches apart.1)
 
-all_kept_of : {A : Type 0} (P : A → Type 0) (test : A → Bool) (xs : List A) → AllByRecursion P xs → AllByRecursion P (filter test xs)
+pub all_kept_of : {A : Type 0} (P : A → Type 0) (test : A → Bool) (xs : List A) → AllByRecursion P xs → AllByRecursion P (filter test xs)
 all_kept_of P test [] all = tt
 all_kept_of P test (x ∷ xs) all =
     cond_both (test x) (x ∷ filter test xs) (filter test xs) (AllByRecursion P)

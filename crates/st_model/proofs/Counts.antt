@@ -100,7 +100,7 @@ applied_is given state version (Some batch) next e =
     let parts = only_if (batch.version == version) (after_batch state batch) next e in
     (batch, refl, eqb-true batch.version version parts.0, parts.1)
 
-greatest_reaches : (bound first : ℕ) (log : List Batch) → first ≤ greatest_to bound first log
+pub greatest_reaches : (bound first : ℕ) (log : List Batch) → first ≤ greatest_to bound first log
 greatest_reaches bound first [] = le_refl first
 greatest_reaches bound first (batch ∷ log) =
     cond_both (nat_lt first batch.version && nat_le batch.version bound) batch.version first (λ n. first ≤ greatest_to bound n log)

@@ -16,6 +16,7 @@ use Rattle.st_model.specs.declared.watch.WatchState.{WatchState}
 use Rattle.st_model.specs.declared.watch.WatchState.TheVariants as watch
 use Rattle.st_model.specs.Pieces.{serves}
 use Rattle.st_model.specs.Reply.{Reply, too_old, not_yet, wrong_shard, found, reply}
+use Rattle.st_model.specs.Report.{is_of_watch}
 use Rattle.st_model.specs.Schedule.{AreNumbered, ArePatient, IsPatient, Polled, Progress, Session, Stage, do_poll, events_of_poll, first_look, has_open, is_open, look_at, poll, poll_first, poll_of, polls_left, polls_to_come, release_with, with_event}
 use Rattle.st_model.specs.Session.{answer_to}
 use Rattle.st_model.specs.State.{Given, State, Watch, is_registered, register, release, step}
@@ -162,7 +163,7 @@ module _ {E : Type 0} (given : Given) where
       by_step None none = ap (λ (q : Progress E). q.sessions) (with_none p event none)
       by_step (Some next) some = ap (λ (q : Progress E). q.sessions) (with_some p event next some)
 
-  all_same_sessions : (p : Progress E) (events : List Event) → (fold (with_event given) p events).sessions ≡ p.sessions
+  pub all_same_sessions : (p : Progress E) (events : List Event) → (fold (with_event given) p events).sessions ≡ p.sessions
   all_same_sessions p [] = refl
   all_same_sessions p (event ∷ events) = all_same_sessions (with_event given p event) events ∙ same_sessions p event
 
@@ -390,6 +391,24 @@ module _ (given : Given) (reader place : ℕ) (state : State) (session : Session
 abbrev at_state : State → List Session → Progress (Unit {0})
 at_state state sessions =
     record { lines = []; trace = []; state = state; sessions = sessions; engine = tt; calls = 0; halt = None }
+
+of_watch : (number : ℕ) (event : Event) → IsOf number event → is_of_watch event ≡ true
+of_watch number (Watched other key value) of_it = refl
+of_watch number (Unwatched other) of_it = refl
+of_watch number event of_it = absurd of_it
+
+-- a poll makes events of watches alone
+pub poll_events : {E : Type 0} (stage : Stage E) (progress : Progress E) (reader : ℕ)
+    → ArePatient stage.given.settings.patience progress.state.watches progress.sessions → has_open reader progress.sessions ≡ true
+    → AllByRecursion (λ event. is_of_watch event ≡ true) (events_of_poll stage.given reader progress.state progress.sessions)
+poll_events {E = E} stage progress reader patient has =
+    let one = some_found (is_open reader) progress.sessions has in
+    subst (λ o. AllByRecursion (λ event. is_of_watch event ≡ true) (option_map_or (λ s. (poll_of stage.given progress.state s).events) o []))
+    (sym one.1)
+    (all_map (IsOf one.0.request.number) (λ event. is_of_watch event ≡ true) (of_watch one.0.request.number)
+    (poll_of stage.given progress.state one.0).events
+    (leads stage.given progress one.0 (open_is reader one.0 (found_passes (is_open reader) progress.sessions one.0 one.1)).1
+    (found_has (is_open reader) (IsPatient stage.given.settings.patience progress.state.watches) progress.sessions one.0 one.1 patient.each)).of_it)
 
 pub fewer_left : (given : Given) (reader place : ℕ) (state : State) (sessions : List Session) → ArePatient given.settings.patience state.watches sessions
     → has_open reader sessions ≡ true

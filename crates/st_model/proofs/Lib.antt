@@ -13,6 +13,9 @@ mod Dropped
 mod Drops
 mod FetchRows
 mod Forms
+mod Ends
+mod EndsActs
+mod EndsPairs
 mod EndsPolls
 mod Keeping
 mod Lists

@@ -1,6 +1,7 @@
 //! Laws that what a schedule makes comes to an end.
-ghost use Rattle.std.specs.Prelude.{◌≡◌, ◌<◌, ℕ, List, IsTrue};
-ghost use Rattle.st_model.specs.Schedule.{ArePatient, Progress, Session, Stage, do_poll, has_open, poll_first, polls_left};
+ghost use Rattle.std.specs.Prelude.{◌≡◌, ◌<◌, ◌≤◌, ℕ, List, None, IsTrue};
+ghost use Rattle.st_model.specs.Report.{requests_of};
+ghost use Rattle.st_model.specs.Schedule.{AreNumbered, ArePatient, Progress, Session, Stage, begin, do_poll, has_open, next, poll_first, polls_left, walk};
 ghost use Rattle.st_model.specs.State.{Given, State};
 
 /// A poll of a reader that has an open request leaves fewer polls to make, and no session that is polled too often.
@@ -14,4 +15,11 @@ pub fn polls_come_to_an_end<E>()
         → IsTrue (has_open reader progress.sessions)
         → ArePatient stage.given.settings.patience (do_poll stage progress reader).state.watches
         (do_poll stage progress reader).sessions }
+{}
+
+/// A life that follows its schedule, whatever its log and its opening, is over after some number of steps, where requests
+/// are polled at least once, blocks have rows, and requests have numbers of their own.
+pub fn schedules_come_to_an_end<E>()
+    ensures { (stage : Stage E) → 1 ≤ stage.given.settings.patience → 1 ≤ stage.given.settings.block
+        → AreNumbered (requests_of stage.plan) → (steps : ℕ) × (next stage (walk stage steps (begin stage)) ≡ None) }
 {}

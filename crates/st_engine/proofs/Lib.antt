@@ -1,6 +1,7 @@
 mod Cases
 mod Gaps
 mod Above
+mod Behind
 mod Sorted
 mod Independent
 mod Snapshots

@@ -10,6 +10,7 @@ pub use Rattle.st_queue.specs.Place
 pub use Rattle.st_queue.specs.Queue
 pub use Rattle.st_queue.specs.Writing
 pub mod Replay
+pub mod Behind
 pub mod Snapshot
 pub mod Commit
 pub mod Kept

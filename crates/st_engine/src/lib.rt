@@ -2,12 +2,14 @@
 #![tactic(auto)]
 
 mod engine;
+mod laws;
 mod map;
 mod recovery;
 mod snapshot;
 mod writing;
 
 pub use engine::Engine;
+pub use laws::operations_change_each_key;
 pub use st_queue::{QueueMount as EngineMount, QueueRefusal as EngineRefusal};
 
 #[cfg(test)]

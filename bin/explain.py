@@ -208,7 +208,8 @@ def shape(words):
 
 
 def usage(form, names):
-    return f'"{form}" has ' + (f"the words {' '.join(names)}" if names else "no words after it")
+    of = "no words after it" if not names else f"the word{'s' if len(names) > 1 else ''} {' '.join(names)}"
+    return f'"{form}" has {of}'
 
 
 def count_fault(words, end):
@@ -267,7 +268,11 @@ def why_word(words, line):
     if form.text not in known:
         if b"\t" in form.bytes:
             return at(form, "there is a tab in this word: only spaces part words")
-        near = difflib.get_close_matches(form.text.lower(), known, 1)
+        if form.text in REQUESTS:
+            return at(form, f'a request is asked by a reader: ask READER {form.text} .., or last {form.text} ..')
+        if form.text in ACTS:
+            return at(form, f'a step is written do {form.text}')
+        near = difflib.get_close_matches(form.text.lower(), known, 1, 0.75)
         hint = f': did you mean "{near[0]}"?' if near else "; docs/SCRIPT.md has the lines of a script"
         return at(form, f'no line begins with "{cut(form.text, 20)}"{hint}')
     tabbed = next((word for word in words if b"\t" in word.bytes), None)

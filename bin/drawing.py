@@ -90,8 +90,18 @@ def requests_of(plan):
 # In a terminal
 
 
+# The colours of a terminal for each kind of poll.
+PAINTS = {"waits": "33", "answered": "32", "refused": "31", "stopped": "90"}
+
+
 def padded(cells, widths):
     return "  ".join(cell.ljust(width) for cell, width in zip(cells, widths)).rstrip()
+
+
+def painted(cell, poll):
+    """A cell with a poll, in the colour of its kind."""
+    text = cell.rstrip()
+    return f"\033[{PAINTS[poll.kind()]}m{text}\033[0m{cell[len(text):]}" if poll else cell
 
 
 def poll_text(poll):
@@ -110,7 +120,7 @@ def keys_row(table, state):
     return "".join("|" + sign * (max(len(label) + 1, 5) - 1) for sign, label in zip(signs, table.labels())) + "|"
 
 
-def life_text(table):
+def life_text(table, is_painted):
     header = ["place", "event", *VERSIONS, keys_header(table), *(name_of(reader) for reader in table.readers)]
     rows = []
     for place, state, polls in table.rows:
@@ -120,6 +130,10 @@ def life_text(table):
             told = [str(place).rjust(5), cut(table.event(place)), *versions, keys_row(table, state)]
         rows.append(told + [poll_text(poll) for poll in polls])
     widths = [max(len(row[column]) for row in [header, *rows]) for column in range(len(header))]
+    if is_painted:
+        first = len(header) - len(table.readers)
+        for row, (_, _, polls) in zip(rows, table.rows):
+            row[first:] = [painted(cell.ljust(width), poll) for cell, width, poll in zip(row[first:], widths[first:], polls)]
     return [heading(table.life), "", padded(header, widths), *(padded(row, widths) for row in rows)]
 
 
@@ -130,11 +144,11 @@ def legend_text(all_tables):
     return [f"{of}: {sign} {text}" for of, sign, _, text in told] + [""]
 
 
-def as_text(script, transcript):
-    """The drawing as lines of text."""
+def as_text(script, transcript, is_painted=False):
+    """The drawing as lines of text, with the colours of a terminal or without."""
     lines, all_tables = [], tables(script, transcript)
     for table, plan in zip(all_tables, script.plans):
-        lines += life_text(table) + [""] + requests_of(plan) + [""]
+        lines += life_text(table, is_painted) + [""] + requests_of(plan) + [""]
     lines += legend_text(all_tables)
     return lines + [line for line in (transcript.fault, transcript.end) if line]
 

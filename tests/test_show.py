@@ -72,6 +72,14 @@ class Drawn(unittest.TestCase):
                         self.assertIn(drawing.cut(answer.result, drawing.MOST - 6).rstrip("."), text)
                 self.assertIn(transcript.end, text)
 
+    def test_colours_change_nothing_else(self):
+        for paths in all_paths():
+            with self.subTest(paths[0]):
+                painted = drawing.as_text(*read(paths), is_painted=True)
+                plain = [re.sub("\033\\[[0-9]+m", "", line).rstrip() for line in painted]
+                self.assertEqual(plain, drawing.as_text(*read(paths)))
+                self.assertNotEqual(painted, plain)
+
     def test_pictures_are_pictures_without_overlaps(self):
         for paths in all_paths():
             with self.subTest(paths[0]):

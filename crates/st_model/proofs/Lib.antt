@@ -38,6 +38,7 @@ mod Reports
 mod RowParts
 mod Rows
 mod Sound
+mod TraceRows
 mod Traces
 mod Turns
 mod Walks

@@ -20,14 +20,14 @@ use Rattle.st_fold.specs.Endings.{status_of}
 use Rattle.st_model.specs.Report.{Begun, IsDemanded, IsLife, ends_life, fresh}
 use Rattle.st_model.specs.State.{Given}
 use Rattle.st_model.specs.Trace.{is_at_rest, state_after}
-use Rattle.st_model.proofs.Rows.{asking, given_to, life_to, set}
+use Rattle.st_model.proofs.RowParts.{gets, given_to, life_to, playing, sets}
 
 abbrev given : Given
-given = given_to 1 (set 1 97 49 ∷ [])
+given = given_to 1 (sets 1 97 49 ∷ [])
 
 -- reader 1 gets the key twice at version 1, and a third get is left to the end
 abbrev plan : LifePlan
-plan = record (life_to 1 (asking 1 1 97 1 ∷ asking 2 1 97 1 ∷ []) []) { lasts = asking 3 0 97 0 ∷ [] }
+plan = record (playing 1 (gets 1 1 97 1 ∷ gets 2 1 97 1 ∷ []) []) { lasts = gets 3 0 97 0 ∷ [] }
 
 abbrev answer : ℕ → List ℕ → Answer → Answered
 answer number places told = record { request = number; places = places; answer = told }
@@ -85,7 +85,7 @@ asks_last_early life =
     omega (arith, e)
 
 -- a life that closes while a batch is due
-closes_early : IsLife given fresh_opening (life_to 1 [] []) (life_with (Opened 0 ∷ Closed ∷ []) [] ending.Closed) → ⊥
+closes_early : IsLife given fresh_opening (life_to 1) (life_with (Opened 0 ∷ Closed ∷ []) [] ending.Closed) → ⊥
 closes_early life =
     let split = same_from_push (Opened 0 ∷ []) life.ends.events Closed Closed life.ends.trace in
     let after : Some (plain_state 0) ≡ Some life.ends.state = ap (state_after given fresh_opening) split.0 ∙ life.ends.after in
@@ -94,23 +94,23 @@ closes_early life =
     cc
 
 -- a life that was killed though it was to close, one that ends otherwise than it says, and one that isn't legal
-killed_unasked : IsLife given fresh_opening (life_to 1 [] []) (life_with (Opened 0 ∷ Killed ∷ []) [] ending.Killed) → ⊥
+killed_unasked : IsLife given fresh_opening (life_to 1) (life_with (Opened 0 ∷ Killed ∷ []) [] ending.Killed) → ⊥
 killed_unasked life = let none : None ≡ Some (life.ends.calls, life.ends.choice) = life.ends.to_kill in cc
 
-closes_by_fault : IsLife given fresh_opening (life_to 1 [] []) (life_with whole [] ending.Faulted) → ⊥
+closes_by_fault : IsLife given fresh_opening (life_to 1) (life_with whole [] ending.Faulted) → ⊥
 closes_by_fault life = let end : true ≡ false = life.ends in cc
 
-applies_twice : IsLife given fresh_opening (life_to 1 [] []) (life_with (Opened 0 ∷ Applied 1 ∷ Applied 1 ∷ []) [] ending.Faulted) → ⊥
+applies_twice : IsLife given fresh_opening (life_to 1) (life_with (Opened 0 ∷ Applied 1 ∷ Applied 1 ∷ []) [] ending.Faulted) → ⊥
 applies_twice life = let none : false ≡ true = life.legal in cc
 
 -- ---- reports
 
 abbrev script : Script
-script = record { settings = given.settings; own = given.own; log = given.log; lives = life_to 1 [] [] ∷ life_to 1 [] [] ∷ [] }
+script = record { settings = given.settings; own = given.own; log = given.log; lives = life_to 1 ∷ life_to 1 ∷ [] }
 
 -- a life of the script that was begun
 abbrev begun : Life → Begun
-begun life = record { plan = life_to 1 [] []; opening = fresh_opening; life = life }
+begun life = record { plan = life_to 1; opening = fresh_opening; life = life }
 
 -- what such reports begin with, and their statuses
 opens_empty : fresh script ≡ record { version = 0; available = given.own }

@@ -23,7 +23,7 @@ use Rattle.st_fold.specs.Endings.{last_event}
 use Rattle.st_model.specs.Pieces.{all_keys}
 use Rattle.st_model.specs.Report.{given_by}
 use Rattle.st_model.specs.Schedule.{Stage, made}
-use Rattle.st_model.specs.State.{Opening}
+use Rattle.st_model.specs.State.{Given, Opening}
 
 -- ---- scripts
 
@@ -56,6 +56,9 @@ gets number reader byte version = asks number reader (ask.Get (key byte) version
 abbrev pub life_to : ℕ → LifePlan
 life_to upto = record { upto = upto; asks = []; lasts = []; dos = []; cuts = []; peerfails = []; kill = None }
 
+abbrev pub playing : ℕ → List Request → List (Do × ℕ) → LifePlan
+playing upto requests dos = record (life_to upto) { asks = requests; dos = dos }
+
 abbrev pub does : Act → ℕ → Do × ℕ
 does action times = (step_of.Act action, times)
 
@@ -64,6 +67,10 @@ flush = (step_of.Flush, 1)
 
 abbrev pub poll : ℕ → ℕ → Do × ℕ
 poll reader times = (step_of.Poll reader, times)
+
+-- what a server is given that owns all keys
+abbrev pub given_to : ℕ → List Batch → Given
+given_to upto log = record { log = log; upto = upto; own = all_keys ∷ []; settings = settings }
 
 -- ---- lives
 

@@ -1,17 +1,20 @@
 -- A worked script that is killed in its first commit or after it, with the reports that it demands.
 use Rattle.std.proofs.Common.{◌≡◌, ℕ, true, false, List, [], ◌∷◌, None, Some, refl, inl, inr, arith}
-use Rattle.st_fold.specs.declared.plan.Act.TheVariants.{Apply}
+use Rattle.st_fold.specs.declared.plan.Act.TheVariants.{Apply, Began}
+use Rattle.st_fold.specs.declared.plan.Do.TheVariants.{Flush}
 use Rattle.st_fold.specs.declared.plan.LifePlan.{LifePlan}
 use Rattle.st_fold.specs.declared.plan.Script.{Script}
 use Rattle.st_fold.specs.declared.report.Ending.TheVariants as ending
 use Rattle.st_fold.specs.declared.report.Event.{Event}
-use Rattle.st_fold.specs.declared.report.Event.TheVariants.{Opened, Applied, Began, Durable}
+use Rattle.st_fold.specs.declared.report.Event.TheVariants.{Opened, Applied, Durable}
+use Rattle.st_fold.specs.declared.report.Event.TheVariants as event
+use Rattle.st_fold.specs.declared.report.Fault.TheVariants as fault
 use Rattle.st_fold.specs.declared.report.Life.{Life}
 use Rattle.st_fold.specs.declared.request.Answer.TheVariants.{Value}
 use Rattle.st_model.specs.Pieces.{all_keys}
 use Rattle.st_model.specs.Report.{IsDemanded, IsLife, fresh, given_by}
-use Rattle.st_model.specs.Schedule.{Plays, readers_at_end}
-use Rattle.st_model.proofs.Demands.{begun, closes, dies_at_rest, dies_in_flight, how_killed, last_place, two_lives}
+use Rattle.st_model.specs.Schedule.{Plays, Stage, full, readers_at_end}
+use Rattle.st_model.proofs.Demands.{begun, closes, closes_alone, dies_at_rest, dies_in_flight, ends_faulted, faults, how_killed, last_place, two_lives}
 use Rattle.st_model.proofs.Played.{plays}
 use Rattle.st_model.proofs.RowParts.{all, answered, does, empty, flush, gets, key, life, life_to, sets, settings, stage}
 
@@ -33,13 +36,13 @@ first_commit calls = record {
 -- ---- after 3 calls, in the middle of the commit: the next life opens as this one did
 
 abbrev flying : List Event
-flying = Opened 0 ∷ Applied 1 ∷ Applied 2 ∷ Began 1 ∷ []
+flying = Opened 0 ∷ Applied 1 ∷ Applied 2 ∷ event.Began 1 ∷ []
 
 abbrev died_in_flight : Life
 died_in_flight = life 0 flying [] ending.Killed
 
 abbrev committed : List Event
-committed = Opened 0 ∷ Applied 1 ∷ Applied 2 ∷ Began 1 ∷ Durable 1 ∷ []
+committed = Opened 0 ∷ Applied 1 ∷ Applied 2 ∷ event.Began 1 ∷ Durable 1 ∷ []
 
 abbrev from_nothing : Life
 from_nothing = life 0 committed (answered 1 (5 ∷ []) (Value (key 49)) ∷ []) ending.Closed
@@ -93,6 +96,66 @@ goes_on_as_written : Plays (stage (first_commit 10) asking_at_end (all 1) 4) fro
 unfolding readers_at_end
 goes_on_as_written = plays (stage (first_commit 10) asking_at_end (all 1) 4) 100 refl refl
 
+-- ---- its first commit would make a file longer than it may get, which is seen after the 6 calls that turn to the file
+
+abbrev committing : LifePlan
+committing = record (life_to 2) { dos = does Apply 2 ∷ flush ∷ [] }
+
+abbrev file_full : Script
+file_full = record (first_commit 0) {
+  settings = record settings { window = 1; limit = 200 };
+  lives = committing ∷ asking_at_end ∷ [];
+}
+
+abbrev filled : Life
+filled = life 0 flying [] ending.Faulted
+
+file_full_demanded : IsDemanded file_full (fresh file_full) 10 (Some (fault.Full 254 200)) (begun committing (all 0) filled ∷ [])
+file_full_demanded =
+    ends_faulted file_full committing (asking_at_end ∷ []) filled (fault.Full 254 200) refl
+    (faults (given_by file_full committing) (all 0) committing flying [] tt refl refl refl refl refl refl) refl (λ e. omega (arith, e)) tt
+
+abbrev past_limit : LifePlan → Stage ℕ
+past_limit plan = record (stage file_full plan (all 0) 10) { commit = λ next events. full 6 254 200 }
+
+fills_as_written : Plays (past_limit committing) filled
+unfolding readers_at_end
+fills_as_written = plays (past_limit committing) 100 refl refl
+
+-- a life that is killed before these calls are made, and one that isn't
+dies_before_it_fills : Plays (past_limit (dying 5)) died_in_flight
+unfolding readers_at_end
+dies_before_it_fills = plays (past_limit (dying 5)) 100 refl refl
+
+fills_before_it_dies : Plays (past_limit (dying 6)) filled
+unfolding readers_at_end
+fills_before_it_dies = plays (past_limit (dying 6)) 100 refl refl
+
+-- ---- a commit that was begun is ended by the first of two flushes, and the second makes one more
+
+abbrev flushing_twice : LifePlan
+flushing_twice = record (life_to 3) { dos = does Apply 2 ∷ does Began 1 ∷ does Apply 1 ∷ (Flush, 2) ∷ [] }
+
+abbrev two_flushes : Script
+two_flushes = record {
+  settings = record settings { window = 1 };
+  own = all_keys ∷ [];
+  log = sets 1 97 49 ∷ sets 2 97 50 ∷ sets 3 97 51 ∷ [];
+  lives = flushing_twice ∷ [];
+}
+
+abbrev two_commits : List Event
+two_commits = Opened 0 ∷ Applied 1 ∷ Applied 2 ∷ event.Began 1 ∷ Applied 3 ∷ Durable 1 ∷ event.Began 2 ∷ Durable 2 ∷ []
+
+two_flushes_demanded : IsDemanded two_flushes (fresh two_flushes) 0 None (begun flushing_twice (all 0) (life 0 two_commits [] ending.Closed) ∷ [])
+two_flushes_demanded =
+    closes_alone two_flushes flushing_twice two_commits [] refl
+    (closes (given_by two_flushes flushing_twice) (all 0) flushing_twice two_commits [] tt refl refl refl refl refl refl refl refl refl)
+
+two_flushes_played : Plays (stage two_flushes flushing_twice (all 0) 10) (life 0 two_commits [] ending.Closed)
+unfolding readers_at_end
+two_flushes_played = plays (stage two_flushes flushing_twice (all 0) 10) 100 refl refl
+
 -- ---- reports of these scripts that aren't demanded
 
 -- killed three calls in where no commit was begun
@@ -120,3 +183,7 @@ answers_before_rest is_life =
       last_place (given_by (first_commit 3) asking_at_end) (all 0) asking_at_end committed (answered 1 (3 ∷ []) (Value (key 49)) ∷ []) 3 refl
           is_life,
     )
+
+-- one that was closed though it was to be killed
+closes_unasked : IsLife (given_by (first_commit 10) (dying 10)) (all 0) (dying 10) (life 0 committed [] ending.Closed) → ⊥
+closes_unasked is_life = let e : Some (10, 0) ≡ None = is_life.ends.to_close in cc

@@ -1,5 +1,5 @@
 -- A worked script that is killed while keys are fetched, wherever its commits are cut off, with the reports that it demands.
-use Rattle.std.proofs.Common.{ℕ, ◌<◌, ◌≤◌, List, [], ◌∷◌, None, Some, refl, inl, inr, arith}
+use Rattle.std.proofs.Common.{◌≡◌, ℕ, ◌<◌, ◌≤◌, true, false, List, [], ◌∷◌, None, Some, refl, inl, inr, arith}
 use Rattle.std.proofs.lemmas.Bool.{le-leb, lt-ltb}
 use Rattle.st_fold.specs.declared.plan.LifePlan.{LifePlan}
 use Rattle.st_fold.specs.declared.plan.Script.{Script}
@@ -11,7 +11,7 @@ use Rattle.st_fold.specs.declared.request.Answer.TheVariants.{Value, WrongShard,
 use Rattle.st_model.specs.Report.{Begun, IsDemanded, IsLife, fresh, given_by}
 use Rattle.st_model.specs.Schedule.{Plays, readers_at_end}
 use Rattle.st_model.specs.State.{Opening}
-use Rattle.st_model.proofs.Demands.{begun, closes, dies_at_rest, dies_in_flight, two_lives}
+use Rattle.st_model.proofs.Demands.{begun, closes, dies_at_rest, dies_in_flight, how_killed, two_lives}
 use Rattle.st_model.proofs.FetchRows.{below_a, fetched, fetching, shard_fetch, two_blocks}
 use Rattle.st_model.proofs.Played.{plays}
 use Rattle.st_model.proofs.RowParts.{all, answered, gets, key, life, life_to, stage}
@@ -182,3 +182,13 @@ lives_from_2_as_written = plays (stage (fetch_crash 13 0) asking_at_end (holding
 lives_from_4_as_written : Plays (stage (fetch_crash 14 0) asking_at_end (all 4) 4) lived_from_4
 unfolding readers_at_end
 lives_from_4_as_written = plays (stage (fetch_crash 14 0) asking_at_end (all 4) 4) 100 refl refl
+
+-- ---- a life that was killed after fewer calls than its commits make
+
+dies_too_late : IsLife (given_by (fetch_crash 3 0) (dying 3 0)) (holding_below_a 0) (dying 3 0) died_second → ⊥
+dies_too_late is_life =
+    elim (how_killed (given_by (fetch_crash 3 0) (dying 3 0)) (holding_below_a 0) (dying 3 0) to_second_commit died_second.answers 3 0 refl
+    is_life) [
+      | inl rest ↦ (let e : false ≡ true = rest.0 in cc)
+      | inr flight ↦ omega (arith, flight.1.0)
+    ]

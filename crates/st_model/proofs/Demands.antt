@@ -10,12 +10,13 @@ use Rattle.st_fold.specs.declared.report.Answered.{Answered}
 use Rattle.st_fold.specs.declared.report.Ending.TheVariants as ending
 use Rattle.st_fold.specs.declared.report.Event.{Event}
 use Rattle.st_fold.specs.declared.report.Event.TheVariants.{Closed, Killed}
-use Rattle.st_fold.specs.declared.report.Fault.TheVariants as fault
+use Rattle.st_fold.specs.declared.report.Fault.{Fault}
 use Rattle.st_fold.specs.declared.report.Life.{Life}
 use Rattle.st_fold.specs.declared.request.Answer.{Answer}
 use Rattle.st_fold.specs.declared.request.Answer.TheVariants as answer
 use Rattle.st_fold.specs.declared.request.Request.{Request}
-use Rattle.st_model.specs.Report.{AllAnswered, AreAnswered, AreLives, Begun, EndsAtBlock, EndsWithin, IsClosed, IsDemanded, IsKilled, IsLife, MayFollow, Ends, all_behind, are_named, blocks, commits, ends_life, fresh, given_by, is_faulted, may_split, places_of, requests_of}
+use Rattle.st_fold.specs.Endings.{status_of}
+use Rattle.st_model.specs.Report.{AllAnswered, AreAnswered, AreLives, Begun, HasCause, EndsWithin, IsClosed, IsDemanded, IsKilled, IsLife, MayFollow, Ends, all_behind, are_named, blocks, commits, ends_life, fresh, given_by, is_faulted, may_split, places_of, requests_of}
 use Rattle.st_model.specs.Session.{NeverFalls}
 use Rattle.st_model.specs.State.{Given, Opening, State}
 use Rattle.st_model.specs.Trace.{is_at_rest, is_end, state_after}
@@ -296,18 +297,19 @@ two_lives script first second lives opens is_first first_ends follows is_second 
     no : {A : Type 0} {how : Bool} → how ≡ false → how ≡ true → A
     no is_not is = absurd (let e : false ≡ true = sym is_not ∙ is in cc)
 
--- a script's only life, which ended where the source of fetches failed
-pub fails_by_source : (script : Script) (plan : LifePlan) (life : Life) → script.lives ≡ plan ∷ []
-    → IsLife (given_by script plan) (fresh script) plan life → EndsAtBlock script (begun plan (fresh script) life ∷ [])
-    → IsDemanded script (fresh script) 7 (Some (fault.Peer 1)) (begun plan (fresh script) life ∷ [])
-fails_by_source script plan life lives is_life fails = record {
-  lives_are = subst (λ plans. AreLives script (λ opening. opening ≡ fresh script) plans (begun plan (fresh script) life ∷ [])) (sym lives)
+-- the first life of a script, which a fault ended
+pub ends_faulted : (script : Script) (plan : LifePlan) (plans : List LifePlan) (life : Life) (why : Fault) → script.lives ≡ plan ∷ plans
+    → IsLife (given_by script plan) (fresh script) plan life → ends_life (Some why) ≡ true → status_of (Some why) ≢ 0
+    → HasCause script (begun plan (fresh script) life ∷ []) (Some why)
+    → IsDemanded script (fresh script) (status_of (Some why)) (Some why) (begun plan (fresh script) life ∷ [])
+ends_faulted script plan plans life why lives is_life may not_zero caused = record {
+  lives_are = subst (λ all. AreLives script (λ opening. opening ≡ fresh script) all (begun plan (fresh script) life ∷ [])) (sym lives)
       (refl, refl, is_life, (λ _. refl), tt);
-  all_lives = λ zero. absurd (omega (arith, zero));
+  all_lives = λ zero. absurd (not_zero zero);
   status_is = refl;
-  faulted = all_at (λ (one : Begun). is_faulted one.life.ending ≡ true → ends_life (Some (fault.Peer 1)) ≡ true)
-      (begun plan (fresh script) life ∷ []) ((λ _. refl), tt);
-  cause = fails;
+  faulted = all_at (λ (one : Begun). is_faulted one.life.ending ≡ true → ends_life (Some why) ≡ true) (begun plan (fresh script) life ∷ [])
+      ((λ _. may), tt);
+  cause = caused;
 }
 
 -- a script's only life, which came to rest after these events, and was closed there

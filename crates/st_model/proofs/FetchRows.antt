@@ -16,7 +16,7 @@ use Rattle.st_fold.specs.declared.report.Life.{Life}
 use Rattle.st_fold.specs.declared.request.Answer.TheVariants.{Value, WrongShard, Stopped}
 use Rattle.st_model.specs.Report.{IsDemanded, IsLife, fresh, given_by}
 use Rattle.st_model.specs.Schedule.{Plays, readers_at_end}
-use Rattle.st_model.proofs.Demands.{begun, closes, closes_alone, fails_by_source, faults}
+use Rattle.st_model.proofs.Demands.{begun, closes, closes_alone, ends_faulted, faults}
 use Rattle.st_model.proofs.Played.{plays}
 use Rattle.st_model.proofs.RowParts.{answered, batch, does, empty, flush, gets, key, life, life_to, poll, settings, span, stage}
 
@@ -83,14 +83,40 @@ failed = life 0 started (answered 1 [] Stopped ∷ answered 2 [] Stopped ∷ ans
 
 block_fails_demanded : IsDemanded block_fails (fresh block_fails) 7 (Some (fault.Peer 1)) (begun failing (fresh block_fails) failed ∷ [])
 block_fails_demanded =
-    fails_by_source block_fails failing failed refl
+    ends_faulted block_fails failing [] failed (fault.Peer 1) refl
     (faults (given_by block_fails failing) (fresh block_fails) failing started failed.answers (refl, refl, (refl, refl, (refl, refl, tt)))
     refl refl refl refl refl refl)
-    (refl, refl)
+    refl (λ e. omega (arith, e)) (refl, refl)
 
 block_fails_played : Plays (stage block_fails failing (fresh block_fails) 10) failed
 unfolding readers_at_end
 block_fails_played = plays (stage block_fails failing (fresh block_fails) 10) 100 refl refl
+
+-- ---- its second block fails
+
+abbrev failing_later : LifePlan
+failing_later = record fetching { peerfails = 2 ∷ [] }
+
+abbrev second_block_fails : Script
+second_block_fails = record shard_fetch { lives = failing_later ∷ [] }
+
+abbrev one_of_two : List Event
+one_of_two = Opened 0 ∷ Applied 1 ∷ Applied 2 ∷ FetchStart (key 97) 2 ∷ Block (key 97) (key 99) ∷ Applied 3 ∷ []
+
+abbrev failed_later : Life
+failed_later = life 0 one_of_two (answered 1 [] Stopped ∷ answered 2 [] Stopped ∷ answered 3 [] Stopped ∷ []) ending.Faulted
+
+second_block_fails_demanded : IsDemanded second_block_fails (fresh second_block_fails) 7 (Some (fault.Peer 1))
+    (begun failing_later (fresh second_block_fails) failed_later ∷ [])
+second_block_fails_demanded =
+    ends_faulted second_block_fails failing_later [] failed_later (fault.Peer 1) refl
+    (faults (given_by second_block_fails failing_later) (fresh second_block_fails) failing_later one_of_two failed_later.answers
+    (refl, refl, (refl, refl, (refl, refl, tt))) refl refl refl refl refl refl)
+    refl (λ e. omega (arith, e)) (refl, refl)
+
+second_block_fails_played : Plays (stage second_block_fails failing_later (fresh second_block_fails) 10) failed_later
+unfolding readers_at_end
+second_block_fails_played = plays (stage second_block_fails failing_later (fresh second_block_fails) 10) 100 refl refl
 
 -- ---- atomic operations that come while their key is fetched
 
@@ -189,11 +215,8 @@ splits_at_newest is_life = let e : false ≡ true = is_life.split in cc
 fails_unasked : IsDemanded shard_fetch (fresh shard_fetch) 7 (Some (fault.Peer 1)) (begun fetching (fresh shard_fetch) failed ∷ []) → ⊥
 fails_unasked report = let e : false ≡ true = report.cause.1 in cc
 
-abbrev failing_later : LifePlan
-failing_later = record fetching { peerfails = 2 ∷ [] }
-
-fails_too_soon : IsDemanded (record shard_fetch { lives = failing_later ∷ [] }) (fresh shard_fetch) 7 (Some (fault.Peer 1))
-    (begun failing_later (fresh shard_fetch) failed ∷ []) → ⊥
+fails_too_soon : IsDemanded second_block_fails (fresh second_block_fails) 7 (Some (fault.Peer 1))
+    (begun failing_later (fresh second_block_fails) failed ∷ []) → ⊥
 fails_too_soon report = let e : false ≡ true = report.cause.1 in cc
 
 -- one that gives the block that fails

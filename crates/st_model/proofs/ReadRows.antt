@@ -178,3 +178,13 @@ goes_on_after_a_fault : (second : Begun) → IsDemanded second_life (fresh secon
 goes_on_after_a_fault second report =
     let e : 1 ≡ 0 = ap length (report.lives_are.3 refl) in
     omega (arith, e)
+
+-- a life that tells another version than it opened at, and the lives of a script in another order
+opens_otherwise : IsLife (given_by first_get getting) (fresh first_get) getting (record got { opened = 1 }) → ⊥
+opens_otherwise is_life = omega (arith, is_life.opened)
+
+in_another_order : (second : Begun) → IsDemanded (record second_life { lives = moved_on ∷ moving ∷ [] }) (fresh second_life) 0 None
+    (begun moving (all 0) moved ∷ second ∷ []) → ⊥
+in_another_order second report =
+    let e : 3 ≡ 2 = ap (λ (plan : LifePlan). length plan.asks) report.lives_are.0 in
+    omega (arith, e)

@@ -1,6 +1,6 @@
 -- What a schedule makes comes to an end.
-use Rattle.std.proofs.Common.{◌≡◌, ◌⊎◌, ℕ, zero, suc, ◌+◌, ◌*◌, ◌<◌, ◌≤◌, Bool, true, false, not, ◌&&◌, ◌||◌, ◌==◌, nat_lt, nat_le, cond, List, [], ◌∷◌, ◌++◌, map, drop, length, max, slice_get, unwrap_or, bytes_eq, Option, Some, None, is_none, is_some, IsSome, option_map, refl, sym, ap, ◌∙◌, subst, inl, inr, arith, le_refl, le_trans}
-use Rattle.std.proofs.lemmas.Bool.{cases_eq, cond_both, cond-true, cond-false, and_parts, and_from, eq-eqb, lt-ltb, ltb-true, or_from, true≢false}
+use Rattle.std.proofs.Common.{◌≡◌, ℕ, zero, suc, ◌+◌, ◌*◌, ◌<◌, ◌≤◌, Bool, true, false, not, ◌||◌, ◌==◌, nat_lt, cond, List, [], ◌∷◌, ◌++◌, map, drop, length, max, slice_get, unwrap_or, bytes_eq, Option, Some, None, is_none, IsSome, option_map, refl, sym, ap, ◌∙◌, subst, inl, inr, arith, le_refl, le_trans}
+use Rattle.std.proofs.lemmas.Bool.{cases_eq, cond_both, cond-true, and_from, eq-eqb, lt-ltb, ltb-true, or_from}
 use Rattle.std.proofs.lemmas.List.Folds.{list_any-append}
 use Rattle.std.proofs.lemmas.Slice.Eq.{bytes_eq-Decides}
 use Rattle.std.specs.List.{AllByRecursion, find, fold, list_any}
@@ -21,12 +21,12 @@ use Rattle.st_model.specs.declared.piece.Piece.{Piece}
 use Rattle.st_model.specs.declared.piece.Phase.{Phase}
 use Rattle.st_model.specs.declared.piece.Phase.TheVariants.{Absent, WaitPrevious, Fetching, Waiting, Readable}
 use Rattle.st_model.specs.Partition.{IsPartition}
-use Rattle.st_model.specs.Pieces.{in_phase, is_behind, wants_block, wants_fetch}
+use Rattle.st_model.specs.Pieces.{in_phase, wants_block, wants_fetch}
 use Rattle.st_model.specs.State.{Given, Opening, State, commit_due, commit_version, first_state, next_batch, step}
 use Rattle.st_model.specs.Trace.{IsFetchOf, due, event_by, is_end, state_after}
 use Rattle.st_model.specs.Report.{is_of_watch, requests_of}
 use Rattle.st_model.specs.Schedule.{AreNumbered, ArePatient, Commit, made, full, Halt, blown, no_block, past_limit, IsPatient, Progress, Session, Stage, begin, block_end, close_on, do_act, do_poll, event_of, event_of_block, events_of_poll, finish_commit, has_open, lets_through, make, may_do, newest_at_blocks, next, on_line, poll_first, polls_left, readers_at_end, source_fails, source_oldest, unpolled, walk, with_event}
-use Rattle.st_model.proofs.Acts.{made as allowed, none_of, some_of}
+use Rattle.st_model.proofs.Acts.{made as allowed, some_of}
 use Rattle.st_model.proofs.Counts.{applied_is, began_is, counted, counted_step, ended_is, only_if}
 use Rattle.st_model.proofs.EndsActs.{Below, FetchesOn, leaves_less, left_of, measure}
 use Rattle.st_model.proofs.EndsPairs.{block_goes_on}

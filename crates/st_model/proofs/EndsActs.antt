@@ -1,10 +1,10 @@
 -- What is left to do in a state, and that each act leaves less.
-use Rattle.std.proofs.Common.{◌≡◌, ◌⊎◌, ℕ, suc, ◌+◌, ◌-◌, ◌<◌, ◌≤◌, Bool, true, false, not, ◌&&◌, ◌||◌, ◌==◌, nat_lt, nat_le, cond, List, [], ◌∷◌, ◌++◌, map, filter, length, bytes_eq, Option, Some, None, is_none, if◌then◌else◌, refl, sym, ap, ◌∙◌, subst, inl, inr, arith, le_refl}
-use Rattle.std.proofs.lemmas.Bool.{cond_both, cond-true, cond-false, and_from, and_parts, and_right, or_from, ltb-true, ltb-false, lt-ltb, false_from_ne_true, true≢false}
+use Rattle.std.proofs.Common.{◌≡◌, ◌⊎◌, ℕ, suc, ◌+◌, ◌-◌, ◌<◌, ◌≤◌, Bool, true, false, ◌&&◌, nat_lt, nat_le, cond, List, [], ◌∷◌, ◌++◌, map, filter, length, bytes_eq, Option, Some, None, refl, sym, ap, ◌∙◌, subst, inl, inr, arith, le_refl}
+use Rattle.std.proofs.lemmas.Bool.{cond_both, and_from, and_parts, and_right, or_from, ltb-true, ltb-false, lt-ltb, false_from_ne_true, true≢false}
 use Rattle.std.proofs.lemmas.Slice.Eq.{bytes_eq-Decides}
-use Rattle.std.specs.List.{AllByRecursion, find, flat_map, list_any}
+use Rattle.std.specs.List.{AllByRecursion, find, list_any}
 use Rattle.st_key.specs.KeyOrder.{less_irrefl}
-use Rattle.st_key.specs.Spans.{Span, key_less}
+use Rattle.st_key.specs.Spans.{key_less}
 use Rattle.st_mutation.specs.declared.batch.Batch.{Batch}
 use Rattle.st_fold.specs.Map.{batches_to, folded}
 use Rattle.st_fold.specs.declared.plan.Act.{Act}

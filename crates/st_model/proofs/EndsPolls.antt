@@ -1,6 +1,6 @@
 -- Polls come to an end: each leaves fewer to make.
-use Rattle.std.proofs.Common.{◌≡◌, ℕ, suc, ◌+◌, ◌-◌, ◌<◌, ◌≤◌, Bool, true, false, not, ◌&&◌, ◌||◌, ◌==◌, nat_lt, cond, List, [], ◌∷◌, ◌++◌, map, filter, length, Option, Some, None, is_none, is_some, refl, sym, ap, ◌∙◌, subst, inl, inr, arith, zero-le, length-append}
-use Rattle.std.proofs.lemmas.Bool.{cond_both, cond-true, cond-false, and_from, eqb-true, eqb-false, eq-eqb, ne_eqb, not-false, cases_eq, true≢false}
+use Rattle.std.proofs.Common.{◌≡◌, ℕ, ◌+◌, ◌-◌, ◌<◌, ◌≤◌, Bool, true, false, not, ◌&&◌, ◌||◌, ◌==◌, nat_lt, cond, List, [], ◌∷◌, ◌++◌, map, filter, length, Option, Some, None, is_none, refl, sym, ap, ◌∙◌, subst, inl, inr, arith, length-append}
+use Rattle.std.proofs.lemmas.Bool.{cond_both, cond-true, and_from, eqb-true, eqb-false, eq-eqb, ne_eqb, not-false, cases_eq, true≢false}
 use Rattle.std.proofs.lemmas.List.Folds.{list_any-append}
 use Rattle.std.specs.List.{AllByRecursion, find, fold, list_any}
 use Rattle.std.specs.Option.{option_map_or}
@@ -19,7 +19,7 @@ use Rattle.st_model.specs.Reply.{Reply, too_old, not_yet, wrong_shard, found, re
 use Rattle.st_model.specs.Report.{is_of_watch}
 use Rattle.st_model.specs.Schedule.{AreNumbered, ArePatient, IsPatient, Polled, Progress, Session, Stage, do_poll, events_of_poll, first_look, has_open, is_open, look_at, poll, poll_first, poll_of, polls_left, polls_to_come, release_with, with_event}
 use Rattle.st_model.specs.Session.{answer_to}
-use Rattle.st_model.specs.State.{Given, State, Watch, is_registered, register, release, step}
+use Rattle.st_model.specs.State.{Given, State, Watch, is_registered, step}
 use Rattle.st_model.specs.Watching.{watch_answer, watch_state}
 use Rattle.st_model.proofs.Counts.{only_if}
 use Rattle.st_model.proofs.Cuts.{all_both}

@@ -1,8 +1,8 @@
 -- What a written schedule makes of a plain life is a life that is demanded, and it makes one life.
-use Rattle.std.proofs.Common.{◌≡◌, ℕ, zero, suc, ◌+◌, ◌-◌, ◌≤◌, Bool, true, false, nat_le, cond, List, [], ◌∷◌, ◌++◌, map, length, Option, Some, None, is_none, option_map, refl, sym, ap, ◌∙◌, subst, inl, inr, arith, add-sub_of_le, le_of_lt}
+use Rattle.std.proofs.Common.{◌≡◌, ℕ, zero, suc, ◌+◌, ◌-◌, ◌≤◌, Bool, true, false, nat_le, cond, List, [], ◌∷◌, ◌++◌, Option, Some, None, is_none, option_map, refl, sym, ap, ◌∙◌, subst, inl, inr, arith, add-sub_of_le, le_of_lt}
 use Rattle.std.proofs.lemmas.Bool.{cases_Bool, cases_eq, leb-false, leb-true}
 use Rattle.std.proofs.lemmas.List.FromFn.{get_or-range_with_len, length-range_with_len}
-use Rattle.std.specs.List.{AllByRecursion, find, list_all, list_any, range_with_len}
+use Rattle.std.specs.List.{AllByRecursion, find, list_any, range_with_len}
 use Rattle.std.specs.Option.{option_map_or}
 use Rattle.st_fold.specs.Plain.{IsLast, IsOfReader, IsPlainLife}
 use Rattle.st_mutation.specs.declared.batch.Batch.{Batch}
@@ -14,10 +14,10 @@ use Rattle.st_fold.specs.declared.request.Request.{Request}
 use Rattle.st_model.specs.State.{Given}
 use Rattle.st_model.specs.Plain.{IsPlain, Plainly, apply_plainly, begin_plainly, first_to, fresh_opening, next_plainly, poll_plainly, plain_stage, progress_of, walk_plainly, with_lines}
 use Rattle.st_model.specs.Report.{IsLife, requests_of}
-use Rattle.st_model.specs.Schedule.{BreaksOff, Halt, LeadsTo, Plays, Progress, Session, Stage, begin, ending_by, has_open, is_open, life_of, next, readers_at_end, walk}
+use Rattle.st_model.specs.Schedule.{BreaksOff, LeadsTo, Plays, Progress, Session, Stage, begin, ending_by, has_open, is_open, life_of, next, readers_at_end, walk}
 use Rattle.st_model.proofs.Lists.{all_at, all_left, all_map, all_merged, all_of_map, all_right}
 use Rattle.st_model.proofs.Lives.{all_answered, closed, faulted}
-use Rattle.st_model.proofs.Sound.{IsSound, is_answered}
+use Rattle.st_model.proofs.Sound.{IsSound}
 use Rattle.st_model.proofs.Walks.{next_step, reached}
 
 -- ---- the end of a life

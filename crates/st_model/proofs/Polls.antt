@@ -1,6 +1,6 @@
 -- What a poll adds to a session.
-use Rattle.std.proofs.Common.{◌≡◌, ◌≢◌, ℕ, suc, ◌+◌, ◌<◌, ◌≤◌, Bool, true, false, ◌==◌, nat_lt, cond, List, [], ◌∷◌, ◌++◌, map, length, Option, Some, None, is_none, refl, sym, ap, ◌∙◌, subst, arith, le_refl}
-use Rattle.std.proofs.lemmas.Bool.{cond_both, cond-true, and_parts, eqb-true, eq-eqb}
+use Rattle.std.proofs.Common.{◌≡◌, ◌≢◌, ℕ, ◌+◌, ◌≤◌, Bool, true, false, ◌==◌, nat_lt, cond, List, [], ◌∷◌, ◌++◌, map, length, Option, Some, None, is_none, refl, sym, ap, ◌∙◌, subst, arith, le_refl}
+use Rattle.std.proofs.lemmas.Bool.{cond_both, and_parts, eqb-true}
 use Rattle.std.specs.List.{AllByRecursion, find}
 use Rattle.std.specs.Option.{option_map_or}
 use Rattle.st_fold.specs.Map.{Map, folded, value_at}
@@ -13,7 +13,7 @@ use Rattle.st_fold.specs.declared.request.Ask.{Ask}
 use Rattle.st_fold.specs.declared.request.Ask.TheVariants.{Get, Rows, Select, Watch}
 use Rattle.st_model.specs.State.{Given, Opening, State}
 use Rattle.st_model.specs.Trace.{state_after, state_at}
-use Rattle.st_model.specs.Reply.{Reply, too_old, not_yet, wrong_shard, found, first_unreadable, reply_unless, reply}
+use Rattle.st_model.specs.Reply.{Reply, too_old, not_yet, found, first_unreadable, reply_unless, reply}
 use Rattle.st_model.specs.Session.{Outcome, open_yet, never, outcome, answer_to, after_answer, is_empty}
 use Rattle.st_model.specs.Schedule.{Polled, Session, events_of_poll, is_open, poll, poll_first, poll_of}
 use Rattle.st_model.specs.Plain.{fresh_opening}

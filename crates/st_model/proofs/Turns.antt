@@ -1,7 +1,7 @@
 -- The polls of each reader, before and after one more poll.
-use Rattle.std.proofs.Common.{◌≡◌, ◌≢◌, ℕ, ◌≤◌, Bool, true, false, ◌||◌, ◌==◌, cond, List, [], ◌∷◌, ◌++◌, length, is_none, refl, sym, ap, ◌∙◌, inl, inr, ◌⊎◌, append-nil, append_assoc}
-use Rattle.std.proofs.lemmas.Bool.{cond_both, cond-false, and_from, and_left, eqb-true, eq-eqb, ne_eqb, both_ways, or_parts}
-use Rattle.std.specs.List.{AllByRecursion, list_any}
+use Rattle.std.proofs.Common.{◌≡◌, ◌≢◌, ℕ, ◌≤◌, Bool, true, false, ◌==◌, cond, List, [], ◌∷◌, ◌++◌, length, is_none, refl, sym, ap, ◌∙◌, inl, inr, ◌⊎◌, append-nil, append_assoc}
+use Rattle.std.proofs.lemmas.Bool.{cond_both, cond-false, and_from, eqb-true, eq-eqb, ne_eqb, both_ways}
+use Rattle.std.specs.List.{AllByRecursion}
 use Rattle.st_fold.specs.declared.report.Event.{Event}
 use Rattle.st_model.specs.State.{Given, State}
 use Rattle.st_model.specs.Session.{NeverFalls}

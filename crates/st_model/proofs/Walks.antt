@@ -1,5 +1,5 @@
 -- Plain lives begin soundly, each step of them keeps them sound, and it is the step that their schedule makes.
-use Rattle.std.proofs.Common.{◌≡◌, ◌≢◌, ◌⊎◌, ℕ, zero, suc, ◌-◌, ◌≤◌, Bool, true, false, not, ◌&&◌, ◌||◌, ◌==◌, nat_lt, nat_le, cond, List, [], ◌∷◌, ◌++◌, map, drop, length, Option, Some, None, is_none, IfSome, option_map, refl, sym, ap, ◌∙◌, subst, inl, inr, arith, zero-le, le_refl, length-append}
+use Rattle.std.proofs.Common.{◌≡◌, ℕ, zero, suc, ◌-◌, ◌≤◌, true, false, not, ◌&&◌, ◌||◌, ◌==◌, nat_lt, nat_le, cond, List, [], ◌∷◌, ◌++◌, map, drop, length, Option, Some, None, is_none, IfSome, option_map, refl, sym, ap, ◌∙◌, subst, inl, inr, arith, zero-le, le_refl, length-append}
 use Rattle.std.proofs.lemmas.Bool.{cond_both, cond-true, cond-false, and_from, and_parts, or_from, eq-eqb, leb-true}
 use Rattle.std.proofs.lemmas.List.Folds.{list_all-append, list_any-append}
 use Rattle.std.specs.List.{AllByRecursion, find, fold, list_all, list_any}
@@ -7,7 +7,6 @@ use Rattle.std.specs.Option.{option_map_or}
 use Rattle.st_fold.specs.Plain.{IsLast, IsOfReader, IsOfSchedule, IsPlainBatch, IsPlainLife}
 use Rattle.st_fold.specs.Reading.{is_watch}
 use Rattle.st_mutation.specs.declared.batch.Batch.{Batch}
-use Rattle.st_fold.specs.declared.plan.Act.{Act}
 use Rattle.st_fold.specs.declared.plan.Act.TheVariants as act
 use Rattle.st_fold.specs.declared.plan.Do.{Do}
 use Rattle.st_fold.specs.declared.plan.Do.TheVariants as step_of
@@ -17,11 +16,11 @@ use Rattle.st_fold.specs.declared.report.Event.TheVariants.{Opened, Applied, Beg
 use Rattle.st_fold.specs.declared.request.Request.{Request}
 use Rattle.st_model.specs.Pieces.{all_keys, first_pieces, inject, move_piece}
 use Rattle.st_model.specs.State.{Given, State, next_batch, apply_next, after_batch, assigned, first_state, greatest_to, move_span, step}
-use Rattle.st_model.specs.Trace.{commit_due, commit_version, due, is_end, state_after}
+use Rattle.st_model.specs.Trace.{commit_due, commit_version, due, is_end}
 use Rattle.st_model.specs.Session.{NeverFalls}
 use Rattle.st_model.specs.Report.{requests_of}
-use Rattle.st_model.specs.Schedule.{LeadsTo, Progress, Session, Stage, begin, close_on, do_act, do_poll, event_of, events_of_poll, has_open, is_open, make, next, on_line, poll_first, poll_of, readers_at_end, unpolled, walk, with_event}
-use Rattle.st_model.specs.Plain.{IsPlain, IsSplit, Plainly, apply_plainly, begin_plainly, end_plainly, first_to, fresh_opening, line_plainly, next_plainly, plain_stage, plain_state, poll_plainly, progress_of, walk_plainly, with_lines}
+use Rattle.st_model.specs.Schedule.{Progress, Session, Stage, begin, close_on, do_act, do_poll, event_of, has_open, make, next, on_line, readers_at_end, unpolled, walk, with_event}
+use Rattle.st_model.specs.Plain.{IsPlain, IsSplit, Plainly, apply_plainly, begin_plainly, first_to, fresh_opening, line_plainly, next_plainly, plain_stage, plain_state, poll_plainly, progress_of, walk_plainly, with_lines}
 use Rattle.st_model.proofs.Lists.{all_append, all_map, all_merged, all_right}
 use Rattle.st_model.proofs.Batches.{none_to, next_is, first_is, split_on}
 use Rattle.st_model.proofs.Traces.{state_after_push, outcome_grows}

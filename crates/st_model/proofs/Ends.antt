@@ -16,6 +16,7 @@ use Rattle.st_fold.specs.declared.plan.Do.TheVariants as step_of
 use Rattle.st_fold.specs.declared.plan.LifePlan.{LifePlan}
 use Rattle.st_fold.specs.declared.report.Event.{Event}
 use Rattle.st_fold.specs.declared.report.Event.TheVariants.{Opened, Applied, FetchStart, Block, Split, Began, Durable, Watched, Unwatched, Closed, Killed}
+use Rattle.st_fold.specs.declared.report.Life.{Life}
 use Rattle.st_fold.specs.declared.request.Request.{Request}
 use Rattle.st_model.specs.declared.piece.Piece.{Piece}
 use Rattle.st_model.specs.declared.piece.Phase.{Phase}
@@ -25,7 +26,7 @@ use Rattle.st_model.specs.Pieces.{in_phase, wants_block, wants_fetch}
 use Rattle.st_model.specs.State.{Given, Opening, State, commit_due, commit_version, first_state, next_batch, step}
 use Rattle.st_model.specs.Trace.{IsFetchOf, due, event_by, is_end, state_after}
 use Rattle.st_model.specs.Report.{is_of_watch, requests_of}
-use Rattle.st_model.specs.Schedule.{AreNumbered, ArePatient, Commit, made, full, Halt, blown, no_block, past_limit, IsPatient, Progress, Session, Stage, begin, block_end, close_on, do_act, do_poll, event_of, event_of_block, events_of_poll, finish_commit, has_open, lets_through, make, may_do, newest_at_blocks, next, on_line, poll_first, polls_left, readers_at_end, source_fails, source_oldest, unpolled, walk, with_event}
+use Rattle.st_model.specs.Schedule.{AreNumbered, ArePatient, Commit, made, full, Halt, blown, no_block, past_limit, IsPatient, Progress, Session, Stage, begin, block_end, close_on, do_act, do_poll, event_of, event_of_block, events_of_poll, finish_commit, has_open, lets_through, make, may_do, newest_at_blocks, next, on_line, poll_first, polls_left, readers_at_end, source_fails, source_oldest, unpolled, walk, with_event, Plays, ending_by, life_of}
 use Rattle.st_model.proofs.Acts.{made as allowed, some_of}
 use Rattle.st_model.proofs.Counts.{applied_is, began_is, counted, counted_step, ended_is, only_if}
 use Rattle.st_model.proofs.EndsActs.{Below, FetchesOn, leaves_less, left_of, measure}
@@ -623,3 +624,13 @@ module _ {E : Type 0} (stage : Stage E) where
           apart = subst AreNumbered (sym (first_requests (requests_of stage.plan))) numbered;
         };
       })
+
+  pub makes_a_life : 1 ≤ stage.given.settings.patience → 1 ≤ stage.given.settings.block → AreNumbered (requests_of stage.plan)
+      → (life : Life) × Plays stage life
+  makes_a_life patience rows numbered = (life_of stage last (ending_by stage.plan last.halt), (last, (ends.0, refl), ends.1, refl))
+    where
+      ends : (steps : ℕ) × (next stage (walk stage steps (begin stage)) ≡ None)
+      ends = comes_to_an_end patience rows numbered
+
+      last : Progress E
+      last = walk stage ends.0 (begin stage)

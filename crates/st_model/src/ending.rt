@@ -1,7 +1,8 @@
 //! Laws that what a schedule makes comes to an end.
 ghost use Rattle.std.specs.Prelude.{◌≡◌, ◌<◌, ◌≤◌, ℕ, List, None, IsTrue};
+ghost use Rattle.st_fold.specs.declared.report.Life.{Life};
 ghost use Rattle.st_model.specs.Report.{requests_of};
-ghost use Rattle.st_model.specs.Schedule.{AreNumbered, ArePatient, Progress, Session, Stage, begin, do_poll, has_open, next, poll_first, polls_left, walk};
+ghost use Rattle.st_model.specs.Schedule.{AreNumbered, ArePatient, Plays, Progress, Session, Stage, begin, do_poll, has_open, next, poll_first, polls_left, walk};
 ghost use Rattle.st_model.specs.State.{Given, State};
 
 /// A poll of a reader that has an open request leaves fewer polls to make, and no session that is polled too often.
@@ -22,4 +23,10 @@ pub fn polls_come_to_an_end<E>()
 pub fn schedules_come_to_an_end<E>()
     ensures { (stage : Stage E) → 1 ≤ stage.given.settings.patience → 1 ≤ stage.given.settings.block
         → AreNumbered (requests_of stage.plan) → (steps : ℕ) × (next stage (walk stage steps (begin stage)) ≡ None) }
+{}
+
+/// So such a schedule makes a life.
+pub fn schedules_make_a_life<E>()
+    ensures { (stage : Stage E) → 1 ≤ stage.given.settings.patience → 1 ≤ stage.given.settings.block
+        → AreNumbered (requests_of stage.plan) → (life : Life) × Plays stage life }
 {}

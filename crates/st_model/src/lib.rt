@@ -10,7 +10,7 @@ mod partition;
 mod piece;
 mod watch;
 
-pub use ending::{polls_come_to_an_end, schedules_come_to_an_end};
+pub use ending::{polls_come_to_an_end, schedules_come_to_an_end, schedules_make_a_life};
 pub use facts::{
     acts_make_steps, all_but_absent_keys_are_assigned, assigned_keys_are_below_ff,
     assignment_is_of_each_key, drops_are_of_each_key, moves_keep_in_step,

@@ -12,11 +12,11 @@ use Rattle.st_fold.specs.declared.report.Fault.TheVariants as fault
 use Rattle.st_fold.specs.declared.report.Life.{Life}
 use Rattle.st_fold.specs.declared.request.Answer.TheVariants.{Value}
 use Rattle.st_model.specs.Pieces.{all_keys}
-use Rattle.st_model.specs.Report.{IsDemanded, IsLife, fresh, given_by}
+use Rattle.st_model.specs.Report.{EndsWithin, IsDemanded, IsLife, fresh, given_by}
 use Rattle.st_model.specs.Schedule.{Plays, Stage, full, readers_at_end}
 use Rattle.st_model.proofs.Demands.{begun, closes, closes_alone, dies_at_rest, dies_in_flight, ends_faulted, faults, how_killed, last_place, two_lives}
 use Rattle.st_model.proofs.Played.{plays}
-use Rattle.st_model.proofs.RowParts.{all, answered, does, empty, flush, gets, key, life, life_to, sets, settings, stage}
+use Rattle.st_model.proofs.RowParts.{all, answered, does, empty, flush, gets, key, life, life_to, poll, sets, settings, stage}
 
 -- the life that is killed after so many calls to the disk
 abbrev dying : ℕ → LifePlan
@@ -134,7 +134,10 @@ fills_before_it_dies = plays (past_limit (dying 6)) 100 refl refl
 -- ---- a commit that was begun is ended by the first of two flushes, and the second makes one more
 
 abbrev flushing_twice : LifePlan
-flushing_twice = record (life_to 3) { dos = does Apply 2 ∷ does Began 1 ∷ does Apply 1 ∷ (Flush, 2) ∷ [] }
+flushing_twice = record (life_to 3) {
+  asks = gets 1 1 97 3 ∷ [];
+  dos = does Apply 2 ∷ does Began 1 ∷ does Apply 1 ∷ (Flush, 2) ∷ poll 1 1 ∷ [];
+}
 
 abbrev two_flushes : Script
 two_flushes = record {
@@ -147,14 +150,32 @@ two_flushes = record {
 abbrev two_commits : List Event
 two_commits = Opened 0 ∷ Applied 1 ∷ Applied 2 ∷ event.Began 1 ∷ Applied 3 ∷ Durable 1 ∷ event.Began 2 ∷ Durable 2 ∷ []
 
-two_flushes_demanded : IsDemanded two_flushes (fresh two_flushes) 0 None (begun flushing_twice (all 0) (life 0 two_commits [] ending.Closed) ∷ [])
-two_flushes_demanded =
-    closes_alone two_flushes flushing_twice two_commits [] refl
-    (closes (given_by two_flushes flushing_twice) (all 0) flushing_twice two_commits [] tt refl refl refl refl refl refl refl refl refl)
+abbrev flushed_twice : Life
+flushed_twice = life 0 two_commits (answered 1 (8 ∷ []) (Value (key 51)) ∷ []) ending.Closed
 
-two_flushes_played : Plays (stage two_flushes flushing_twice (all 0) 10) (life 0 two_commits [] ending.Closed)
+two_flushes_demanded : IsDemanded two_flushes (fresh two_flushes) 0 None (begun flushing_twice (all 0) flushed_twice ∷ [])
+two_flushes_demanded =
+    closes_alone two_flushes flushing_twice two_commits flushed_twice.answers refl
+    (closes (given_by two_flushes flushing_twice) (all 0) flushing_twice two_commits flushed_twice.answers (refl, refl, tt)
+    refl refl refl refl refl refl refl refl refl)
+
+two_flushes_played : Plays (stage two_flushes flushing_twice (all 0) 10) flushed_twice
 unfolding readers_at_end
 two_flushes_played = plays (stage two_flushes flushing_twice (all 0) 10) 100 refl refl
+
+-- ---- how many calls two commits and a part of a third one may make
+
+fewest : EndsWithin 2 8
+fewest = (omega arith, omega arith)
+
+most : EndsWithin 2 29
+most = (omega arith, omega arith)
+
+too_few : EndsWithin 2 7 → ⊥
+too_few within = omega (arith, within.0)
+
+too_many : EndsWithin 2 30 → ⊥
+too_many within = omega (arith, within.1)
 
 -- ---- reports of these scripts that aren't demanded
 

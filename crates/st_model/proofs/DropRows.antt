@@ -1,5 +1,5 @@
 -- Worked scripts in which keys are taken away and given back, over two lives, with the reports that they demand.
-use Rattle.std.proofs.Common.{◌≡◌, true, false, List, [], ◌∷◌, length, None, Some, refl, ap, subst, inl, inr, arith, le_refl}
+use Rattle.std.proofs.Common.{◌≡◌, ℕ, true, false, List, [], ◌∷◌, length, None, Some, refl, ap, subst, inl, inr, arith, le_refl}
 use Rattle.std.specs.Option.{option_map_or}
 use Rattle.st_key.specs.Spans.{Span}
 use Rattle.st_mutation.specs.declared.batch.Move.TheVariants.{Assign, Release}
@@ -12,7 +12,7 @@ use Rattle.st_fold.specs.declared.report.Event.TheVariants.{Opened, Applied, Fet
 use Rattle.st_fold.specs.declared.report.Life.{Life}
 use Rattle.st_fold.specs.declared.request.Answer.TheVariants.{Value, WrongShard, Stopped}
 use Rattle.st_model.specs.Pieces.{all_keys}
-use Rattle.st_model.specs.Report.{Begun, IsDemanded, IsLife, MayFollow, fresh, given_by}
+use Rattle.st_model.specs.Report.{Begun, IsDemanded, IsLife, MayFollow, fresh, given_by, marks}
 use Rattle.st_model.specs.Schedule.{Plays, readers_at_end}
 use Rattle.st_model.specs.State.{Opening}
 use Rattle.st_model.proofs.Demands.{begun, closes, dies_at_rest, dies_in_flight, how_killed, two_lives}
@@ -162,7 +162,30 @@ comes_back_as_written : Plays (stage drop_in_flight asking_at_end without_a 4) b
 unfolding readers_at_end
 comes_back_as_written = plays (stage drop_in_flight asking_at_end without_a 4) 100 refl refl
 
+-- a batch that takes keys away is a mark, beside the block
+marked_twice : marks drop_and_reassign.log fetched_again ≡ 2
+marked_twice = refl
+
 -- ---- reports of these scripts that aren't demanded
+
+-- the next life opens at the durable version, with other ranges
+holds_less : (second : Begun) → second.opening ≡ record (all 1) { available = span [] (key 97) ∷ [] }
+    → IsDemanded drop_and_reassign (fresh drop_and_reassign) 0 None (begun losing (all 0) lost ∷ second ∷ []) → ⊥
+holds_less second opens report =
+    elim (subst (MayFollow drop_and_reassign (begun losing (all 0) lost)) opens report.lives_are.4.1) [
+      | inl durable ↦
+          let e : 97 ≡ 255 = ap (λ (spans : List Span). first_byte spans) durable.1 in
+          omega (arith, e)
+      | inr flight ↦ cc
+    ]
+  where
+    first_byte : List Span → ℕ
+    first_byte [] = 0
+    first_byte (first ∷ spans) = byte_of first.end
+      where
+        byte_of : List ℕ → ℕ
+        byte_of [] = 0
+        byte_of (byte ∷ bytes) = byte
 
 -- the next life opens at the version in flight, with the ranges from before it
 keeps_old_ranges : (second : Begun) → second.opening ≡ all 2

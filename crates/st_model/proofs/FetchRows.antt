@@ -14,7 +14,7 @@ use Rattle.st_fold.specs.declared.report.Event.TheVariants.{Opened, Applied, Fet
 use Rattle.st_fold.specs.declared.report.Fault.TheVariants as fault
 use Rattle.st_fold.specs.declared.report.Life.{Life}
 use Rattle.st_fold.specs.declared.request.Answer.TheVariants.{Value, WrongShard, Stopped}
-use Rattle.st_model.specs.Report.{IsDemanded, IsLife, fresh, given_by}
+use Rattle.st_model.specs.Report.{IsDemanded, IsLife, blocks, fresh, given_by, marks}
 use Rattle.st_model.specs.Schedule.{Plays, readers_at_end}
 use Rattle.st_model.proofs.Demands.{begun, closes, closes_alone, ends_faulted, faults}
 use Rattle.st_model.proofs.Played.{plays}
@@ -195,6 +195,22 @@ too_old_split_demanded =
 too_old_split_played : Plays (stage too_old_split splitting (fresh too_old_split) 10) split
 unfolding readers_at_end
 too_old_split_played = plays (stage too_old_split splitting (fresh too_old_split) 10) 100 refl refl
+
+-- a cut before the first block makes no version too old that is fetched there, and of two cuts the later one counts
+cut_before_first_played : Plays (stage shard_fetch (record fetching { cuts = 0 ∷ [] }) (fresh shard_fetch) 10) fetched
+unfolding readers_at_end
+cut_before_first_played = plays (stage shard_fetch (record fetching { cuts = 0 ∷ [] }) (fresh shard_fetch) 10) 100 refl refl
+
+two_cuts_played : Plays (stage too_old_split (record splitting { cuts = 0 ∷ 1 ∷ [] }) (fresh too_old_split) 10) split
+unfolding readers_at_end
+two_cuts_played = plays (stage too_old_split (record splitting { cuts = 0 ∷ 1 ∷ [] }) (fresh too_old_split) 10) 100 refl refl
+
+-- blocks and splits are asked of the source of fetches, and are marks
+asked_thrice : blocks split_once ≡ 3
+asked_thrice = refl
+
+marked_thrice : marks too_old_split.log split_once ≡ 3
+marked_thrice = refl
 
 -- ---- reports of these scripts that aren't demanded
 

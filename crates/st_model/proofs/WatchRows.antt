@@ -7,7 +7,7 @@ use Rattle.st_fold.specs.declared.plan.LifePlan.{LifePlan}
 use Rattle.st_fold.specs.declared.plan.Script.{Script}
 use Rattle.st_fold.specs.declared.report.Ending.TheVariants as ending
 use Rattle.st_fold.specs.declared.report.Event.{Event}
-use Rattle.st_fold.specs.declared.report.Event.TheVariants.{Opened, Applied, Watched, Unwatched, Closed, Killed}
+use Rattle.st_fold.specs.declared.report.Event.TheVariants.{Opened, Applied, Began, Watched, Unwatched, Closed, Killed}
 use Rattle.st_fold.specs.declared.report.Life.{Life}
 use Rattle.st_fold.specs.declared.request.Answer.TheVariants.{Fired, Waiting, WrongShard, TooManyWatches, Stopped}
 use Rattle.st_fold.specs.declared.request.Ask.TheVariants as ask
@@ -20,7 +20,7 @@ use Rattle.st_model.specs.Session.{over, never}
 use Rattle.st_model.specs.State.{Given}
 use Rattle.st_model.specs.Trace.{state_after, state_at}
 use Rattle.st_model.specs.Watching.{Demanded, led_to, names}
-use Rattle.st_model.proofs.Demands.{begun, closes, closes_alone}
+use Rattle.st_model.proofs.Demands.{begun, closes, closes_alone, dies_in_flight}
 use Rattle.st_model.proofs.Played.{plays}
 use Rattle.st_model.proofs.RowParts.{all, answered, asks, batch, does, empty, key, life, life_to, poll, sets, settings, span, stage}
 
@@ -132,6 +132,63 @@ watch_polls_played : Plays (stage watch_polls watching_twice (all 0) 10) both_wa
 unfolding readers_at_end
 watch_polls_played = plays (stage watch_polls watching_twice (all 0) 10) 100 refl refl
 
+-- ---- a life is killed in a commit while a watch stands
+
+abbrev watching_to_death : LifePlan
+watching_to_death = record (life_to 2) { asks = watches 1 1 97 None ∷ []; dos = poll 1 1 ∷ does Apply 2 ∷ []; kill = Some (3, 0) }
+
+abbrev watch_dies : Script
+watch_dies = record {
+  settings = record settings { window = 1 };
+  own = all_keys ∷ [];
+  log = sets 1 97 49 ∷ empty 2 ∷ [];
+  lives = watching_to_death ∷ life_to 2 ∷ [];
+}
+
+abbrev watched_to_death : List Event
+watched_to_death = Opened 0 ∷ Watched 1 (key 97) None ∷ Applied 1 ∷ Applied 2 ∷ Began 1 ∷ []
+
+abbrev died : Life
+died = life 0 watched_to_death (answered 1 (1 ∷ []) Stopped ∷ []) ending.Killed
+
+dies_watching : IsLife (given_by watch_dies watching_to_death) (all 0) watching_to_death died
+dies_watching =
+    dies_in_flight (given_by watch_dies watching_to_death) (all 0) watching_to_death watched_to_death died.answers 3 0 (refl, refl, tt)
+    refl refl refl refl refl refl refl refl refl
+
+watch_dies_played : Plays (stage watch_dies watching_to_death (all 0) 10) died
+unfolding readers_at_end
+watch_dies_played = plays (stage watch_dies watching_to_death (all 0) 10) 100 refl refl
+
+-- ---- a watch of a key that isn't served is refused so, also where no more may stand
+
+abbrev watching_beside : LifePlan
+watching_beside = record (life_to 0) { asks = watches 1 1 96 None ∷ watches 2 2 97 None ∷ []; dos = poll 1 1 ∷ poll 2 1 ∷ [] }
+
+abbrev watch_beside : Script
+watch_beside = record {
+  settings = record settings { watches = 1 };
+  own = span [] (key 97) ∷ [];
+  log = [];
+  lives = watching_beside ∷ [];
+}
+
+abbrev stood_beside : List Event
+stood_beside = Opened 0 ∷ Watched 1 (key 96) None ∷ Unwatched 1 ∷ []
+
+abbrev refused_beside : Life
+refused_beside = life 0 stood_beside (answered 1 (1 ∷ 2 ∷ 2 ∷ []) Waiting ∷ answered 2 (2 ∷ []) (WrongShard (key 97)) ∷ []) ending.Closed
+
+watch_beside_demanded : IsDemanded watch_beside (fresh watch_beside) 0 None (begun watching_beside (fresh watch_beside) refused_beside ∷ [])
+watch_beside_demanded =
+    closes_alone watch_beside watching_beside stood_beside refused_beside.answers refl
+    (closes (given_by watch_beside watching_beside) (fresh watch_beside) watching_beside stood_beside refused_beside.answers
+    (refl, refl, (refl, refl, tt)) refl refl refl refl refl refl refl refl refl)
+
+watch_beside_played : Plays (stage watch_beside watching_beside (fresh watch_beside) 10) refused_beside
+unfolding readers_at_end
+watch_beside_played = plays (stage watch_beside watching_beside (fresh watch_beside) 10) 100 refl refl
+
 -- ---- other polls of these watches
 
 abbrev turning : Given
@@ -214,3 +271,9 @@ watches_unasked is_life = let e : false ≡ true = is_life.named in cc
 not_released : IsLife (given_by watch_fires watching) (all 0) watching
     (life 0 (Opened 0 ∷ Applied 1 ∷ Watched 1 (key 97) (Some (key 65)) ∷ Applied 2 ∷ Applied 3 ∷ []) fired.answers ending.Closed) → ⊥
 not_released is_life = is_life.answered.1
+
+-- one that was stopped with its life, and released all the same
+released_though_stopped : IsLife (given_by watch_dies watching_to_death) (all 0) watching_to_death
+    (life 0 (Opened 0 ∷ Watched 1 (key 97) None ∷ Applied 1 ∷ Applied 2 ∷ Unwatched 1 ∷ Began 1 ∷ []) (answered 1 (1 ∷ []) Stopped ∷ [])
+    ending.Killed) → ⊥
+released_though_stopped is_life = is_life.answered.1

@@ -8,12 +8,13 @@ use Rattle.st_mutation.specs.declared.batch.Batch.{Batch}
 use Rattle.st_fold.specs.declared.plan.LifePlan.{LifePlan}
 use Rattle.st_fold.specs.declared.plan.Script.{Script}
 use Rattle.st_fold.specs.declared.plan.Settings.{Settings}
+use Rattle.st_fold.specs.declared.report.Ending.{Ending}
 use Rattle.st_fold.specs.declared.report.Ending.TheVariants as ending
 use Rattle.st_fold.specs.declared.report.Fault.TheVariants as fault
 use Rattle.st_fold.specs.declared.report.Life.{Life}
-use Rattle.st_model.specs.Plain.{IsPlain, fresh_opening}
+use Rattle.st_model.specs.Plain.{IsPlain, fresh_opening, plain_stage}
 use Rattle.st_model.specs.Report.{Begun, IsDemanded, IsLife}
-use Rattle.st_model.specs.Schedule.{play}
+use Rattle.st_model.specs.Schedule.{BreaksOff, Plays}
 use Rattle.st_script.specs.Playable.{IsPlayable}
 use Rattle.st_report.specs.declared.report.Form.{Form}
 use Rattle.st_report.specs.declared.report.Report.{Report}
@@ -29,28 +30,37 @@ abbrev alone : LifePlan → Life → Begun
 alone plan life = record { plan = plan; opening = fresh_opening; life = life }
 
 module _ (settings : Settings) (log : List Batch) (plan : LifePlan)
-    (is_life : IsLife (owning_all settings log plan.upto) fresh_opening plan (play (owning_all settings log plan.upto) fresh_opening plan))
+    (plays : (life : Life) → Plays (plain_stage (owning_all settings log plan.upto) plan) life → IsLife (owning_all settings log plan.upto) fresh_opening plan life)
+    (breaks_off : (life : Life) → BreaksOff (plain_stage (owning_all settings log plan.upto) plan) life → IsLife (owning_all settings log plan.upto) fresh_opening plan life)
     (closed : (life : Life) → IsLife (owning_all settings log plan.upto) fresh_opening plan life → life.ending ≡ ending.Closed → IsDemanded (plain_script settings log plan) fresh_opening 0 None (alone plan life ∷ []))
     (faulted : (life : Life) → IsLife (owning_all settings log plan.upto) fresh_opening plan life → IsDemanded (plain_script settings log plan) fresh_opening 9 (Some fault.Memory) (alone plan life ∷ [])) where
-  -- the report of a life that was cut short
-  of_faulted : (shown : Form) (life : Life) → life.ending ≡ ending.Faulted → IsLife (owning_all settings log plan.upto) fresh_opening plan life → IsReportOn (plain_script settings log plan) shown (report_of shown life)
-  of_faulted shown life e lived =
-      let is : report_of shown life ≡ report_of shown (record life { ending = ending.Faulted }) = λ i. report_of shown (record life { ending = e i }) in
-      subst (IsReportOn (plain_script settings log plan) shown) (sym is) (record {
-        reports = record { demanded = (alone plan (record life { ending = ending.Faulted }) ∷ [], refl, faulted (record life { ending = ending.Faulted }) (subst (IsLife (owning_all settings log plan.upto) fresh_opening plan) (λ i. record life { ending = e i }) lived)); whole = inr tt };
-        form = refl;
-        consistent = record { status = refl; lives = tt };
-        fault = tt;
-      })
-
-  pub of_life : (shown : Form) (life : Life) → IsPlayed (owning_all settings log plan.upto) plan life → IsReportOn (plain_script settings log plan) shown (report_of shown life)
-  of_life shown life (inl e) = subst (λ l. IsReportOn (plain_script settings log plan) shown (report_of shown l)) (sym e) (record {
-    reports = record { demanded = (alone plan (play (owning_all settings log plan.upto) fresh_opening plan) ∷ [], refl, closed (play (owning_all settings log plan.upto) fresh_opening plan) is_life refl); whole = inl (refl, refl) };
+  -- the report of a life that ended so
+  of_ending : (shown : Form) (life : Life) (how : Ending) → IsPlayed (owning_all settings log plan.upto) plan (record life { ending = how })
+      → IsReportOn (plain_script settings log plan) shown (report_of shown (record life { ending = how }))
+  of_ending shown life ending.Closed played = record {
+    reports = record {
+      demanded = (alone plan (record life { ending = ending.Closed }) ∷ [], refl, closed (record life { ending = ending.Closed }) (plays (record life { ending = ending.Closed }) played) refl);
+      follows = (inl played, tt);
+      whole = inl (refl, (played, tt));
+    };
     form = refl;
     consistent = record { status = refl; lives = tt };
     fault = tt;
-  })
-  of_life shown life (inr (e, lived)) = of_faulted shown life e lived
+  }
+  of_ending shown life ending.Killed played = absurd played
+  of_ending shown life ending.Faulted played = record {
+    reports = record {
+      demanded = (alone plan (record life { ending = ending.Faulted }) ∷ [], refl, faulted (record life { ending = ending.Faulted }) (breaks_off (record life { ending = ending.Faulted }) played));
+      follows = (inr played, tt);
+      whole = inr tt;
+    };
+    form = refl;
+    consistent = record { status = refl; lives = tt };
+    fault = tt;
+  }
+
+  pub of_life : (shown : Form) (life : Life) → IsPlayed (owning_all settings log plan.upto) plan life → IsReportOn (plain_script settings log plan) shown (report_of shown life)
+  of_life shown life played = of_ending shown life life.ending played
 
 -- the same of a script with these parts
 pub on_script : (script : Script) (plan : LifePlan) (shown : Form) (report : Report) → script.own ≡ all_keys ∷ [] → script.lives ≡ plan ∷ [] → IsReportOn (plain_script script.settings script.log plan) shown report → IsReportOn script shown report

@@ -1,6 +1,7 @@
 pub use Rattle.st_io.specs.Faults
 pub use Rattle.st_io.specs.Source
 pub use Rattle.st_model.specs.Report
+pub use Rattle.st_model.specs.Plain
 pub use Rattle.st_model.specs.Schedule
 pub use Rattle.st_report.specs.Text
 pub use Rattle.st_script.specs.Reading

@@ -1,7 +1,8 @@
 -- What a run of the tool promises of its report, of what it reads and of what it writes.
-use Rattle.std.specs.Prelude.{◌≡◌, ◌⊎◌, ℕ, ◌<◌, List, [], ◌∷◌, take, length, map, Option, Some, None, Ok, MatchResult}
+use Rattle.std.specs.Prelude.{◌≡◌, ◌⊎◌, ℕ, ◌<◌, List, [], ◌∷◌, take, length, Option, Some, None, Ok, MatchResult}
 use Rattle.std.specs.Io.KnownBytes.{Appends, IsAtEnd}
 use Rattle.st_fold.specs.declared.plan.Kind.{Kind}
+use Rattle.st_fold.specs.declared.plan.LifePlan.{LifePlan}
 use Rattle.st_fold.specs.declared.plan.Script.{Script}
 use Rattle.st_fold.specs.declared.report.Ending.{Ending}
 use Rattle.st_fold.specs.declared.report.Ending.TheVariants as ending
@@ -12,15 +13,36 @@ use Rattle.st_io.specs.Faults.{Rose}
 use Rattle.st_io.specs.Source.{Takes}
 use Rattle.st_fold.specs.Endings.{status_of}
 use Rattle.st_model.specs.Report.{Begun, IsDemanded, fresh, given_by, lives_of}
-use Rattle.st_model.specs.Schedule.{play}
+use Rattle.st_model.specs.Plain.{plain_stage}
+use Rattle.st_model.specs.Schedule.{BreaksOff, Plays, Stage}
 use Rattle.st_script.specs.Reading.{script_of, max_bytes}
 use Rattle.st_report.specs.declared.report.Form.{Form}
 use Rattle.st_report.specs.declared.report.Report.{Report}
 use Rattle.st_report.specs.Text.{text_of}
 
--- the lives that the written schedules of a script's lives make, where nothing fails
-abbrev pub played : Script → List Life
-played script = map (λ plan. play (given_by script plan) (fresh script) plan) script.lives
+-- what is played of one life of a script: a life of an empty store that makes no commit
+abbrev pub stage_of : Script → LifePlan → Stage (Unit {0})
+stage_of script plan = record (plain_stage (given_by script plan) plan) { opening = fresh script }
+
+-- these are the lives that the written schedules of the script's lives make, one for each
+abbrev pub ArePlayed : Script → List Life → Type 0
+ArePlayed script lives = of script.lives lives
+  where
+    of : List LifePlan → List Life → Type 0
+    of [] [] = Unit {0}
+    of [] (life ∷ lives) = ⊥
+    of (plan ∷ plans) [] = ⊥
+    of (plan ∷ plans) (life ∷ lives) = Plays (stage_of script plan) life × of plans lives
+
+-- each of these lives is the one that its schedule makes, or followed it up to a fault that ended it
+abbrev pub FollowSchedules : Script → List Life → Type 0
+FollowSchedules script lives = of script.lives lives
+  where
+    of : List LifePlan → List Life → Type 0
+    of plans [] = Unit {0}
+    of [] (life ∷ lives) = ⊥
+    of (plan ∷ plans) (life ∷ lives) =
+        (Plays (stage_of script plan) life ⊎ BreaksOff (stage_of script plan) life) × of plans lives
 
 -- the run was cut short by the source or by want of memory
 abbrev pub IsInterruption : Option Fault → Type 0
@@ -35,11 +57,12 @@ IsInterruption (Some fault.Memory) = Unit {0}
 IsInterruption (Some (fault.Full size limit)) = ⊥
 IsInterruption (Some (fault.Foreign what)) = ⊥
 
--- A report on a script: one that the script demands of an empty store. Unless the run was interrupted, it has no fault,
--- and its lives are those that the script's schedules make
+-- A report on a script: one that the script demands of an empty store, whose lives follow the script's schedules. Unless
+-- the run was interrupted, it has no fault, and its lives are those that the schedules make
 pub record ReportsScript (script : Script) (report : Report) : Type 0 where
   pub demanded : (begun : List Begun) × (report.lives ≡ lives_of begun) × IsDemanded script (fresh script) report.status report.fault begun
-  pub whole : ((report.fault ≡ None) × (report.lives ≡ played script)) ⊎ IsInterruption report.fault
+  pub follows : FollowSchedules script report.lives
+  pub whole : ((report.fault ≡ None) × ArePlayed script report.lives) ⊎ IsInterruption report.fault
 
 -- a report on bytes that are no script: it has no lives, and tells the first fault, unless the run was interrupted
 abbrev pub ReportsFault : ℕ × Kind → Report → Type 0
@@ -136,7 +159,7 @@ Writes before now faults_before faults_now report status =
     ⊎ (AppendsPart before now report × (((status ≡ 5) × Rose faults_before faults_now) ⊎ (status ≡ 9)))
 
 -- A script that is in the grammar, read and written without a fault that is counted, gives status 0 with all of its
--- lives, or 9 for want of memory
+-- lives as their schedules make them, or 9 for want of memory
 pub record IsComplete (bytes : List ℕ) (faults_before faults_now : ℕ) (before now : Option (List ℕ)) (sink_before sink_now : ℕ) (report : Report) (status : ℕ) : Type 0 where
   pub succeeds : (script : Script) → script_of bytes ≡ Ok script → ¬ Rose faults_before faults_now → ¬ Rose sink_before sink_now
-      → ((status ≡ 0) × (report.fault ≡ None) × (report.lives ≡ played script) × Appends before now (text_of report)) ⊎ (status ≡ 9)
+      → ((status ≡ 0) × (report.fault ≡ None) × ArePlayed script report.lives × Appends before now (text_of report)) ⊎ (status ≡ 9)

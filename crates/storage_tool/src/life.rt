@@ -1,14 +1,14 @@
 //! One life of the server, in one thread, by its written schedule.
-ghost use Rattle.std.specs.List.{list_any};
-ghost use Rattle.std.specs.Prelude.{◌≡◌, ◌+◌, ◌<◌, ◌≤◌, ◌++◌, ◌∷◌, [], map, vec_len, vec_capacity, false, true, length, take, fold, MatchOption, IfOk, OnOk, OnErr};
+ghost use Rattle.std.specs.List.{AllByRecursion, list_any};
+ghost use Rattle.std.specs.Prelude.{◌≡◌, ◌+◌, ◌<◌, ◌≤◌, ◌++◌, ◌∷◌, ℕ, List, [], map, vec_len, vec_capacity, true, false, length, take, MatchOption, IfOk, OnOk, OnErr, None};
 ghost use Rattle.st_fold.specs.Plain.{IsPlainLife};
-ghost use Rattle.st_model.specs.Plain.{IsPlain, plain_state};
-ghost use Rattle.st_fold.specs.Reading.{version_of};
+ghost use Rattle.st_fold.specs.Reading.{is_watch, version_of};
+ghost use Rattle.st_model.specs.Plain.{IsPlain, begin_plainly, first_to, plain_state};
 ghost use Rattle.st_model.specs.Reply.{not_yet, reply};
-ghost use Rattle.st_model.specs.Report.{merged};
-ghost use Rattle.st_model.specs.Schedule.{answered_by, is_open, repeat};
+ghost use Rattle.st_model.specs.Report.{merged, requests_of};
+ghost use Rattle.st_model.specs.Schedule.{answered_by, has_open, is_open, unpolled};
 ghost use Rattle.st_model.specs.Session.{answer_to};
-ghost use Rattle.storage_tool.specs.Life.{applied, asked, asked_at, asked_from, asked_out, asked_through, at_rest, done, done_line, first_stage, is_next, owning_all, played_out, unpolled, with_event, EndsAs, IsPlayed, LeadsTo};
+ghost use Rattle.storage_tool.specs.Life.{closed, is_next, left_with, owning_all, polled, polls_left, Applies, DoesStep, EndsAs, IsAtRest, IsOver, IsPlayed, IsTurnOf, IsWaiting, LeadsTo, StopsAt};
 
 use st_fold::{
     Act, Answer, Answered, Ask, Do, Ending, Event, Life, LifePlan, Request, Settings, answer_to,
@@ -70,7 +70,7 @@ impl Session {
 // The first session of a reader that is open. It is sought from the front each time.
 fn first_open(sessions: &[Session], reader: u32) -> Option<usize>
     ensures { MatchOption result
-        (list_any (is_open reader) sessions.now ≡ false)
+        (has_open reader sessions.now ≡ false)
         (λ place. (place < length sessions.now)
         × (list_any (is_open reader) (take place sessions.now) ≡ false)
         × (list_any (is_open reader) (take (place + 1) sessions.now) ≡ true)) }
@@ -91,6 +91,8 @@ struct Running<'a> {
     log: &'a [Batch],
     // The greatest version that is applied.
     upto: u64,
+    // The lines of the schedule that are left.
+    lines: &'a [(Do, u64)],
     newest: u64,
     // The batches above the newest version.
     left: &'a [Batch],
@@ -99,18 +101,23 @@ struct Running<'a> {
 }
 
 impl<'a> Model for Running<'a> {
-    ghost use Rattle.std.specs.Prelude.{[], ◌∷◌};
-    ghost use Rattle.st_model.specs.Pieces.{all_keys};
-    ghost use Rattle.storage_tool.specs.Life.{Stage};
+    ghost use Rattle.std.specs.List.{AllByRecursion};
+    ghost use Rattle.storage_tool.specs.Life.{IsWaiting, Playing, owning_all};
 
-    ghost Value = { Stage };
+    ghost Value = { Playing };
 
     ghost view = { λ r. record {
-      given = record { log = r.log.now; upto = r.upto; own = all_keys ∷ []; settings = r.settings };
-      newest = r.newest;
-      left = r.left.now;
-      run = record { trace = r.trace.items; sessions = r.sessions.items };
+      given = owning_all r.settings r.log.now r.upto;
+      so_far = record {
+        lines = r.lines.now;
+        newest = r.newest;
+        left = r.left.now;
+        trace = r.trace.items;
+        sessions = r.sessions.items;
+      };
     } };
+
+    ghost invariant = { λ r. AllByRecursion (IsWaiting r.settings.patience) r.sessions.items };
 }
 
 // Whether the first of the others comes before the first request.
@@ -187,16 +194,26 @@ fn version_of(ask: &Ask) -> u64
 }
 
 impl<'a> Running<'a> {
-    // Begins a life of an empty store, with room for its first event and its requests.
+    // Begins a life of an empty store, with room for its first event.
     fn begin(
         alloc: Global,
         settings: Settings,
         log: &'a [Batch],
         upto: u64,
-        asks: Items<Request>,
-        lasts: Items<Request>,
+        lines: &'a [(Do, u64)],
+        sessions: Vec<Session>,
     ) -> Result<Running<'a>, AllocError>
-        ensures { IfOk result (λ running. running ≡ first_stage (owning_all settings log.now upto) (merged asks lasts)) }
+        requires { AllByRecursion (IsWaiting settings.patience) sessions.items }
+        ensures { IfOk result (λ running. running ≡ record {
+          given = owning_all settings log.now upto;
+          so_far = record {
+            lines = lines.now;
+            newest = 0;
+            left = log.now;
+            trace = Event.Opened 0 ∷ [];
+            sessions = sessions.items;
+          };
+        }) }
     {
         let mut trace = Vec::new(alloc);
         trace.push(Event::Opened(0))?;
@@ -205,16 +222,17 @@ impl<'a> Running<'a> {
             settings,
             log,
             upto,
+            lines,
             newest: 0,
             left: log,
             trace,
-            sessions: unpolled(alloc, asks, lasts)?,
+            sessions,
         })
     }
 
     // The event that ends a life which closes.
     fn close(&mut self) -> Result<(), AllocError>
-        ensures ok { OnOk result (self.new ≡ with_event self.old Event.Closed) }
+        ensures ok { OnOk result (self.new ≡ closed self.old) }
         ensures err { OnErr result (self.new ≡ self.old) }
     {
         self.trace.push(Event::Closed)?;
@@ -222,10 +240,10 @@ impl<'a> Running<'a> {
     }
 
     // The whole life, as far as memory is there for it.
-    fn play_to_end(&mut self, lines: &[(Do, u64)]) -> Ending
-        ensures { EndsAs self.old lines.now self.new result }
+    fn play_to_end(&mut self) -> Ending
+        ensures { EndsAs self.old self.new result }
     {
-        match self.play(lines) {
+        match self.play() {
             Err(AllocError) => Ending::Faulted,
             Ok(()) => match self.close() {
                 Err(AllocError) => Ending::Faulted,
@@ -237,11 +255,11 @@ impl<'a> Running<'a> {
     // The life that was made. There is room for its answers.
     fn end(self, ending: Ending, room: Vec<Answered>) -> Life
         requires empty { room.items ≡ [] }
-        requires room { length self.run.sessions ≤ vec_capacity room }
+        requires room { length self.so_far.sessions ≤ vec_capacity room }
         ensures { result ≡ record {
           opened = 0;
-          trace = self.entry.run.trace;
-          answers = map answered_by self.entry.run.sessions;
+          trace = self.entry.so_far.trace;
+          answers = map answered_by self.entry.so_far.sessions;
           ending = ending;
         } }
     {
@@ -253,28 +271,28 @@ impl<'a> Running<'a> {
         }
     }
 
-    // Applies the batch that comes next, if there is one.
-    fn apply(&mut self) -> Result<(), AllocError>
-        ensures ok { OnOk result (self.new ≡ applied self.old) }
+    // Applies the batch that comes next, and answers whether there is one.
+    fn apply(&mut self) -> Result<bool, AllocError>
+        ensures ok { IfOk result (λ done. Applies done self.old self.new) }
         ensures err { OnErr result (self.new ≡ self.old) }
     {
         let Some((batch, left)) = self.left.split_first() else {
-            return Ok(());
+            return Ok(false);
         };
         if batch.version > self.upto {
-            return Ok(());
+            return Ok(false);
         }
         self.trace.push(Event::Applied(batch.version))?;
         self.newest = batch.version;
         self.left = left;
-        Ok(())
+        Ok(true)
     }
 
     // The answer that one more poll of a session gives it.
     fn answer(&self, session: &Session) -> Result<Option<Answer>, AllocError>
         ensures { IfOk result (λ answer. answer ≡ answer_to self.now.given.settings.patience
             (length session.now.places + 1)
-            (reply self.now.given.log (plain_state self.now.newest) session.now.request.ask)) }
+            (reply self.now.given.log (plain_state self.now.so_far.newest) session.now.request.ask)) }
     {
         let ask = &session.request.ask;
         if version_of(ask) > self.newest {
@@ -286,7 +304,7 @@ impl<'a> Running<'a> {
 
     // The answer after so many polls for a version that hasn't come.
     fn future_version(&self, polls: u64) -> Option<Answer>
-        ensures { result ≡ answer_to self.now.given.settings.patience polls (not_yet self.now.newest) }
+        ensures { result ≡ answer_to self.now.given.settings.patience polls (not_yet self.now.so_far.newest) }
     {
         let patience = self.settings.patience;
         (polls == u64::from(patience)).then_some(Answer::FutureVersion {
@@ -295,61 +313,59 @@ impl<'a> Running<'a> {
         })
     }
 
-    // Polls one session.
-    fn poll_at(&mut self, place: usize) -> Result<(), AllocError>
-        requires { place < length self.old.run.sessions }
-        ensures ok { OnOk result (self.new ≡ asked_at place self.old) }
-        ensures err { OnErr result (self.new ≡ self.old) }
-    {
-        let answer = self.answer(&self.sessions[place])?;
-        let at = self.trace.len() as u64;
-        self.sessions[place].add(at, answer)
-    }
-
     // Polls the reader's first open request, and answers whether there is one.
     fn poll(&mut self, reader: u32) -> Result<bool, AllocError>
-        ensures polled { IfOk result (λ polled. polled ≡ list_any (is_open reader) self.old.run.sessions) }
-        ensures ok { OnOk result (self.new ≡ asked reader self.old) }
+        ensures done { IfOk result (λ done. done ≡ has_open reader self.old.so_far.sessions) }
+        ensures ok { OnOk result (self.new ≡ polled reader self.old) }
+        ensures fewer { IfOk result (λ done. done ≡ true
+            → polls_left self.old.given.settings.patience self.new.so_far.sessions
+            < polls_left self.old.given.settings.patience self.old.so_far.sessions) }
         ensures err { OnErr result (self.new ≡ self.old) }
     {
-        match first_open(&self.sessions, reader) {
-            None => Ok(false),
-            Some(place) => {
-                self.poll_at(place)?;
-                Ok(true)
-            }
-        }
+        let Some(place) = first_open(&self.sessions, reader) else {
+            return Ok(false);
+        };
+        let answer = self.answer(&self.sessions[place])?;
+        let at = self.trace.len() as u64;
+        self.sessions[place].add(at, answer)?;
+        Ok(true)
     }
 
-    fn do_once(&mut self, step: Do) -> Result<(), AllocError>
-        ensures ok { OnOk result (self.new ≡ done step self.old) }
+    // Does a step of the schedule once, and answers whether it could be done.
+    fn do_once(&mut self, step: Do) -> Result<bool, AllocError>
+        ensures ok { IfOk result (λ done. DoesStep step done self.old self.new) }
         ensures err { OnErr result (self.new ≡ self.old) }
     {
         match step {
             Do::Act(Act::Apply) => self.apply(),
-            Do::Act(Act::Start | Act::Block | Act::Began | Act::Durable) => Ok(()),
-            Do::Poll(reader) => {
-                let _polled = self.poll(reader)?;
-                Ok(())
-            }
+            Do::Poll(reader) => self.poll(reader),
+            // No commit and no fetch is ever due.
+            Do::Act(Act::Start | Act::Block | Act::Began | Act::Durable) | Do::Flush => Ok(false),
         }
     }
 
+    // Does a line of the schedule. What can't be done once can't be done again.
     fn do_line(&mut self, step: Do, count: u64) -> Result<(), AllocError>
-        ensures ok { OnOk result (self.new ≡ done_line self.old (step, count)) }
-        ensures err { OnErr result (LeadsTo self.old self.new) }
+        ensures ok { OnOk result (LeadsTo (left_with ((step, count) ∷ self.old.so_far.lines) self.old) self.new) }
+        ensures lines { OnOk result (self.new.so_far.lines ≡ self.old.so_far.lines) }
+        ensures err { OnErr result (StopsAt (left_with ((step, count) ∷ self.old.so_far.lines) self.old) self.new) }
     {
         for _time in 0..count {
-            self.do_once(step)?;
+            if !self.do_once(step)? {
+                return Ok(());
+            }
         }
         Ok(())
     }
 
-    fn do_lines(&mut self, lines: &[(Do, u64)]) -> Result<(), AllocError>
-        ensures ok { OnOk result (self.new ≡ fold done_line self.old lines.now) }
-        ensures err { OnErr result (LeadsTo self.old self.new) }
+    // The schedule as it is written.
+    fn do_lines(&mut self) -> Result<(), AllocError>
+        ensures ok { OnOk result (LeadsTo self.old self.new) }
+        ensures lines { OnOk result (self.new.so_far.lines ≡ []) }
+        ensures err { OnErr result (StopsAt self.old self.new) }
     {
-        for line in lines {
+        while let Some((line, later)) = self.lines.split_first() {
+            self.lines = later;
             self.do_line(line.0, line.1)?;
         }
         Ok(())
@@ -357,43 +373,30 @@ impl<'a> Running<'a> {
 
     // Applies what is left to apply.
     fn come_to_rest(&mut self) -> Result<(), AllocError>
-        ensures ok { OnOk result (self.new ≡ at_rest self.old) }
+        requires { self.old.so_far.lines ≡ [] }
+        ensures ok { OnOk result (LeadsTo self.old self.new) }
+        ensures rest { OnOk result (IsAtRest self.new) }
         ensures err { OnErr result (LeadsTo self.old self.new) }
     {
-        self.do_line(Do::Act(Act::Apply), self.log.len() as u64)
-    }
-
-    // Polls a reader so often, unless it has no open request, and answers whether it may have one.
-    fn poll_round(&mut self, reader: u32, times: usize) -> Result<bool, AllocError>
-        ensures ok { OnOk result (self.new ≡ repeat times (asked reader) self.old) }
-        ensures none { IfOk result (λ more. more ≡ false → list_any (is_open reader) self.new.run.sessions ≡ false) }
-        ensures err { OnErr result (LeadsTo self.old self.new) }
-    {
-        for _time in 0..times {
-            if !self.poll(reader)? {
-                return Ok(false);
-            }
-        }
-        Ok(true)
+        while self.apply()? {}
+        Ok(())
     }
 
     // Polls a reader until it has no open request.
     fn poll_through(&mut self, reader: u32) -> Result<(), AllocError>
-        ensures ok { OnOk result (self.new ≡ asked_through reader self.old) }
-        ensures err { OnErr result (LeadsTo self.old self.new) }
+        ensures ok { OnOk result ((later : List ℕ) → IsTurnOf (reader ∷ later) self.old → LeadsTo self.old self.new) }
+        ensures turn { OnOk result ((later : List ℕ) → IsTurnOf (reader ∷ later) self.old → IsTurnOf later self.new) }
+        ensures err { OnErr result ((later : List ℕ) → IsTurnOf (reader ∷ later) self.old → LeadsTo self.old self.new) }
     {
-        let requests = self.sessions.len();
-        for _round in 0..self.settings.patience {
-            if !self.poll_round(reader, requests)? {
-                return Ok(());
-            }
-        }
+        while self.poll(reader)? {}
         Ok(())
     }
 
     // Polls the requests of all readers, one reader after the other.
     fn poll_readers(&mut self) -> Result<(), AllocError>
-        ensures ok { OnOk result (self.new ≡ asked_from 1 64 self.old) }
+        requires { IsAtRest self.old }
+        ensures ok { OnOk result (LeadsTo self.old self.new) }
+        ensures turn { OnOk result (IsTurnOf (0 ∷ []) self.new) }
         ensures err { OnErr result (LeadsTo self.old self.new) }
     {
         for reader in 1..65 {
@@ -404,7 +407,9 @@ impl<'a> Running<'a> {
 
     // Polls the requests of all readers, and then those of the end.
     fn poll_out(&mut self) -> Result<(), AllocError>
-        ensures ok { OnOk result (self.new ≡ asked_out self.old) }
+        requires { IsAtRest self.old }
+        ensures ok { OnOk result (LeadsTo self.old self.new) }
+        ensures over { OnOk result (IsOver self.new) }
         ensures err { OnErr result (LeadsTo self.old self.new) }
     {
         self.poll_readers()?;
@@ -412,11 +417,12 @@ impl<'a> Running<'a> {
     }
 
     // The schedule as it is written, and then the closing.
-    fn play(&mut self, lines: &[(Do, u64)]) -> Result<(), AllocError>
-        ensures ok { OnOk result (self.new ≡ played_out lines.now self.old) }
-        ensures err { OnErr result (LeadsTo self.old self.new) }
+    fn play(&mut self) -> Result<(), AllocError>
+        ensures ok { OnOk result (LeadsTo self.old self.new) }
+        ensures over { OnOk result (IsOver self.new) }
+        ensures err { OnErr result (StopsAt self.old self.new) }
     {
-        self.do_lines(lines)?;
+        self.do_lines()?;
         self.come_to_rest()?;
         self.poll_out()
     }
@@ -435,10 +441,7 @@ pub(crate) fn play_life(
     requires plain_life { IsPlainLife plan }
     ensures { IfOk result (IsPlayed (owning_all settings log.now plan.upto) plan) }
 {
-    st_model::begins_soundly();
-    st_model::acts_soundly();
-    st_model::polls_soundly();
-    st_model::faulted_is_a_life();
+    st_model::plain_steps_are_steps();
     let LifePlan {
         upto,
         asks,
@@ -448,8 +451,9 @@ pub(crate) fn play_life(
         peerfails: _,
         kill: _,
     } = plan;
-    let mut running = Running::begin(alloc, settings, log, upto, asks, lasts)?;
-    let room = Vec::with_capacity(alloc, running.sessions.len())?;
-    let ending = running.play_to_end(dos.as_slice());
+    let sessions = unpolled(alloc, asks, lasts)?;
+    let room = Vec::with_capacity(alloc, sessions.len())?;
+    let mut running = Running::begin(alloc, settings, log, upto, dos.as_slice(), sessions)?;
+    let ending = running.play_to_end();
     Ok(running.end(ending, room))
 }

@@ -1,7 +1,7 @@
 //! Rows that a reader of the format can check by hand, through the top call.
 ghost use Rattle.std.specs.Prelude.{◌<◌};
 
-use crate::tool;
+use crate::{tool, without_words};
 use st_io::{ByteSink, ByteSource, Sink, Source};
 use std::alloc::{AllocError, Global};
 use std::test::Fail;
@@ -122,6 +122,13 @@ fn scripts_in_pieces_and_their_transcripts(rt: HostRuntime) -> Result<(), Fail> 
             0,
             "life 1 opened 0\nanswer 1 = 31\nanswer 2 = 32\nanswer 3 absent\nlife 1 closed\nend status 0 asked 3 answered 3\n",
         ),
+        // What can't be done is done with, however often it is to be done.
+        (
+            "replay --trace",
+            "storage 1\nown - ff\nlog\nbatch 1\nset 61 31\nlife 1\nask 1 get 61 @1\ndo poll 2 1000000\ndo apply 1000000\ndo poll 1 1000000\ndo poll 1 1000000\nclose\nend\n",
+            0,
+            "life 1 opened 0\nevent applied 1\nanswer 1 at 2 = 31\nlife 1 closed\nend status 0 asked 1 answered 1\n",
+        ),
         // The life applies no version above its own.
         (
             "replay",
@@ -173,6 +180,16 @@ fn the_first_write_fails(rt: HostRuntime) -> Result<(), Fail> {
     let mut script = source(alloc, FIRST_GET, 4096, &[])?;
     assert_eq!(rt; run(alloc, "replay", &mut script, &mut out)?, 5);
     assert!(rt; out.bytes().is_empty());
+    Ok(())
+}
+
+#[test]
+fn memory_is_refused_for_the_words(rt: HostRuntime) -> Result<(), Fail> {
+    let alloc = rt.alloc();
+    let mut out = ByteSink::new(alloc, Vec::new(alloc));
+    assert_eq!(rt; without_words(alloc, &mut out).status, 9);
+    let text = "fault memory\nend status 9 asked 0 answered 0\n";
+    assert_eq!(rt; out.bytes(), text.as_bytes());
     Ok(())
 }
 

@@ -142,6 +142,7 @@ fn play(alloc: Global, form: Form, script: Script) -> Result<Report, AllocError>
     ensures { IfOk result (IsReportOn script form) }
 {
     st_model::play_is_a_life();
+    st_model::broken_off_is_a_life();
     st_model::closed_life_is_demanded();
     st_model::life_before_refused_memory_is_demanded();
     let Script {
@@ -182,6 +183,17 @@ fn report_of(form: Form, life: Life, room: Vec<Life>) -> Report
         lives: Items::from_vec(lives),
         form,
     }
+}
+
+/// The report where memory was refused for the words of the command line.
+pub fn without_words<K: Sink>(alloc: Global, out: &mut K) -> Ended
+    ensures report { result.report ≡ record { status = 9; fault = Some Fault.Memory; lives = []; form = Form.Answers } }
+    ensures written { Writes (K.held out.old) (K.held out.new) (K.faults out.old) (K.faults out.new)
+        result.report result.status }
+{
+    let report = faulty(alloc, Form::Answers, Fault::Memory);
+    let status = write_report(alloc, &report, out);
+    Ended { status, report }
 }
 
 fn write_report<K: Sink>(alloc: Global, report: &Report, out: &mut K) -> u8

@@ -1,24 +1,26 @@
 use Rattle.std.proofs.Common.{sym, subst, ap, length, arith}
-use Rattle.st_model.specs.Report.{requests_of}
-use Rattle.storage_tool.specs.Life.{IsPlayed, owning_all}
-use Rattle.storage_tool.proofs.Plays.{begun_so, ends-count, played}
+use Rattle.storage_tool.specs.Life.{EndsAs, IsPlayed, Playing, owning_all}
+use Rattle.storage_tool.proofs.Plays.{begins_waiting, begun_so, ends-count, played}
 use Rattle.storage_tool.proofs.life.play_life.Goals as goal
+
+pub begin-requires : goal.begin-requires
+begin-requires c =
+    begins_waiting (owning_all c.args.settings c.args.log.now c.args.plan.upto) c.args.plan c.in_ok-sessions.sessions.items c.requires.plain c.requires.plain_life c.in_ok-sessions.ensures
 
 pub end-requires-clause-room : goal.end-requires-clause-room
 end-requires-clause-room c =
-    let sessions = ap (λ stage. length stage.run.sessions) c.running.view_is in
-    let count = ends-count c.in_ok-running.running c.play_to_end-ending.new.self c.as_slice.result.now c.play_to_end-ending.result c.play_to_end-ending.ensures in
-    omega (arith, c.len.ensures, c.running.inside.sessions.ok.0, c.in_ok-room.ensures.exact)
+    let begun = ap (λ (p : Playing). length p.so_far.sessions) c.in_ok-running.ensures in
+    let count = ends-count c.in_ok-running.running c.play_to_end-ending.new.self c.play_to_end-ending.result c.play_to_end-ending.ensures in
+    omega (arith, c.len.ensures, c.in_ok-room.ensures.exact)
 
 pub returns : goal.returns
 returns c =
     let plan = c.args.plan in
     let given = owning_all c.args.settings c.args.log.now plan.upto in
-    let plain = c.requires.plain in
-    let ends = begun_so given plan c.in_ok-running.running c.play_to_end-ending.new.self _ c.play_to_end-ending.result c.in_ok-running.ensures c.as_slice.ensures c.play_to_end-ending.ensures in
+    let begun = begun_so given plan c.in_ok-running.running _ c.in_ok-sessions.sessions.items c.in_ok-running.ensures c.as_slice.ensures c.in_ok-sessions.ensures in
     subst (IsPlayed given plan) (sym c.end.ensures)
-    (played given plan c.play_to_end-ending.new.self c.play_to_end-ending.result
-    (λ newest left run sound split. c.acts_soundly.ensures given (requests_of plan) newest left run plain sound split)
-    (λ newest reader run sound. c.polls_soundly.ensures given (requests_of plan) newest reader run plain sound)
-    (c.begins_soundly.ensures given plan plain c.requires.plain_life) plain.rises
-    (λ newest run sound. c.faulted_is_a_life.ensures given plan newest run plain c.requires.plain_life sound) ends)
+    (played given plan
+    (λ steps. c.plain_steps_are_steps.ensures.leads given plan steps c.requires.plain c.requires.plain_life)
+    (λ steps. c.plain_steps_are_steps.ensures.goes_on given plan steps c.requires.plain c.requires.plain_life)
+    c.requires.plain_life.no_kill c.play_to_end-ending.new.self c.play_to_end-ending.result
+    (subst (λ (p : Playing). EndsAs p c.play_to_end-ending.new.self c.play_to_end-ending.result) begun c.play_to_end-ending.ensures))

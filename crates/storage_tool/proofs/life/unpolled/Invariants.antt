@@ -1,6 +1,6 @@
 use Rattle.std.proofs.Common.{◌≡◌, ◌++◌, map, length}
 use Rattle.st_model.specs.Report.{merged}
-use Rattle.storage_tool.specs.Life.{unpolled}
+use Rattle.st_model.specs.Schedule.{unpolled}
 use Rattle.storage_tool.proofs.life.unpolled.Given as goal
 
 -- with the requests that are left, the sessions are those of all

@@ -1,8 +1,9 @@
-use Rattle.std.proofs.Common.{◌≡◌, drop, fold}
-use Rattle.storage_tool.specs.Life.{done_line, LeadsTo}
+use Rattle.std.proofs.Common.{length}
+use Rattle.storage_tool.specs.Life.{LeadsTo}
 use Rattle.storage_tool.proofs.life.Running.do_lines.Given as goal
 
--- the lines that are left lead where all lead
 abbrev pub invariant-loop-line : goal.invariant-loop-line
-invariant-loop-line l =
-    (fold done_line l.self (drop l.line-index l.lines) ≡ fold done_line l.fn.self l.lines) × LeadsTo l.fn.self l.self
+invariant-loop-line l = LeadsTo l.fn.self l.self
+
+abbrev pub decreases-loop-line : goal.decreases-loop-line
+decreases-loop-line l = length l.self.so_far.lines

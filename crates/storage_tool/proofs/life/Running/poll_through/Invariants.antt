@@ -1,7 +1,9 @@
-use Rattle.std.proofs.Common.{◌≡◌, ◌*◌}
-use Rattle.st_model.specs.Schedule.{repeat}
-use Rattle.storage_tool.specs.Life.{asked}
+use Rattle.storage_tool.specs.Life.{polls_left}
+use Rattle.storage_tool.proofs.Steps.{InTurn}
 use Rattle.storage_tool.proofs.life.Running.poll_through.Given as goal
 
-abbrev pub invariant-loop-round : goal.invariant-loop-round
-invariant-loop-round l = l.self ≡ repeat (l._round * l.requests) (asked l.reader) l.fn.self
+abbrev pub invariant-loop : goal.invariant-loop
+invariant-loop l = InTurn l.reader l.fn.self l.self
+
+abbrev pub decreases-loop : goal.decreases-loop
+decreases-loop l = polls_left l.self.given.settings.patience l.self.so_far.sessions

@@ -76,7 +76,7 @@ def mark(top=TOP, of=None):
 
 
 def call(words, folder, say, stdin=subprocess.DEVNULL):
-    """Runs rt, and answers what it printed. What rt itself has to say goes on as progress."""
+    """Runs rt, and answers what it printed. What it says of itself and of how far it came goes on as progress."""
     try:
         child = subprocess.Popen(
             words, cwd=folder, stdin=stdin, stdout=subprocess.PIPE, stderr=subprocess.PIPE, text=True, errors="replace"
@@ -86,7 +86,7 @@ def call(words, folder, say, stdin=subprocess.DEVNULL):
     told = []
     for line in child.stderr:
         told.append(line)
-        if line.startswith("rt: "):
+        if line.startswith(("rt: ", "so far: ")):
             say("  " + line.rstrip())
     output = child.stdout.read()
     if child.wait() != 0:

@@ -26,6 +26,7 @@ TOOLCHAIN = """\
 #!/bin/sh
 echo "$* in $(basename "$PWD")" >> "$CALLS"
 echo "rt: waiting for another copy" >&2
+echo "so far: 1 of 2 functions checked" >&2
 [ "$(basename "$PWD")" != "$FAILS" ] || { echo "a goal is open" >&2; exit 1; }
 case "$1" in run) mkdir -p out; cp "$PROGRAM" out/storage_tool; chmod +x out/storage_tool;; esac
 """
@@ -87,7 +88,7 @@ class Building(Launcher):
         done = self.run_with("replay", input=b"storage 1\n")
         self.assertEqual((done.returncode, done.stdout), (0, b"played 10\n"))
         self.assertEqual(self.calls(), ["lib in low", "run -- replay in storage_tool"])
-        for line in ("2 crates", "low (1 of 2)", "storage_tool (2 of 2)", "rt: waiting for another copy"):
+        for line in ("2 crates", "low (1 of 2)", "storage_tool (2 of 2)", "rt: waiting for another copy", "so far: 1 of 2"):
             self.assertIn(line, done.stderr.decode())
 
     def test_it_builds_once(self):

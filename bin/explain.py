@@ -63,6 +63,9 @@ NEXT = {
     "end": (),
 }
 
+PLACES = re.compile(rb"^ *(log|batch|life|close|end)(?= |$)", re.MULTILINE)
+VERSIONS = re.compile(rb"^ *batch +([0-9]+)", re.MULTILINE)
+
 
 class Word:
     """A word of a line, and where it begins."""
@@ -110,9 +113,32 @@ def is_skipped(line):
     return not line.strip(b" ") or line.lstrip(b" ").startswith(b"#")
 
 
-def lines_before(script, number):
-    """The lines before the one of this number, without those that are skipped."""
-    return [line for line in script.split(b"\n")[: number - 1] if not is_skipped(line)]
+def line_at(script, number):
+    """The line of this number, and the place where it begins. A script may have millions of lines."""
+    begin = 0
+    for _ in range(number - 1):
+        begin = script.index(b"\n", begin) + 1
+    end = script.find(b"\n", begin)
+    return script[begin:] if end < 0 else script[begin:end], begin
+
+
+def last_line(script):
+    """The last line that isn't skipped, or none."""
+    end = len(script) - script.endswith(b"\n")
+    while end > 0:
+        begin = script.rfind(b"\n", 0, end) + 1
+        if not is_skipped(script[begin:end]):
+            return script[begin:end]
+        end = begin - 1
+    return None
+
+
+def last_match(pattern, before):
+    """The word that the last match of a pattern is about, or none."""
+    found = None
+    for found in pattern.finditer(before):
+        pass
+    return found.group(1).decode("ascii") if found else None
 
 
 # Single words
@@ -323,18 +349,13 @@ def why_range(words):
 
 
 def why_version(words, before):
-    last = [words_of(line)[1].text for line in before if re.match(rb" *batch +[^ ]", line)]
-    return at(words[1], f"versions of batches rise, and the batch before has version {last[-1] if last else 'a greater one'}")
+    last = last_match(VERSIONS, before)
+    return at(words[1], f"versions of batches rise, and the batch before has version {last}")
 
 
 def place_of(before):
-    """The place that the lines before lead to."""
-    place = "the first line"
-    for line in before:
-        first = words_of(line)[0].text
-        if first in NEXT:
-            place = first
-    return place
+    """The place that the lines before lead to, which the last of them that leads to one tells."""
+    return last_match(PLACES, before) or "the first line"
 
 
 def why_order(words, before):
@@ -382,7 +403,7 @@ def why_head(words, line):
 
 
 def reason(kind, line, before):
-    """Why a line has a fault of this kind, after these lines."""
+    """Why a line has a fault of this kind, where this is the script before it."""
     words = words_of(line)
     if kind == "head":
         found = why_head(words, line)
@@ -426,14 +447,12 @@ def of_script(number, kind, script):
         return ["storage_tool: the script is faulty: long", f"  a script has at most {MAX_BYTES} bytes (64 MiB)"]
     told = [f"storage_tool: line {number} is faulty: {kind}"]
     if kind == "end":
-        lines = script.split(b"\n")
-        last = [(place, line) for place, line in enumerate(lines, 1) if not is_skipped(line)]
-        if not last:
+        last = last_line(script)
+        if last is None:
             return told + ["  the script has no lines"]
-        place, line = last[-1]
-        return told + [f'  the script stops before its line "end": the last line that isn\'t skipped is line {place}, "{cut(shown(line.strip(b" ")))}"']
-    line = script.split(b"\n", number)[number - 1]
-    found = reason(kind, line, lines_before(script, number))
+        return told + [f'  the script stops before its line "end": the last line that isn\'t skipped is "{cut(shown(last.strip(b" ")))}"']
+    line, begin = line_at(script, number)
+    found = reason(kind, line, script[:begin])
     told += marked(number, line, found) + ["  " + found.text]
     if line.endswith(b"\r"):
         told.append("  the line ends with CR LF, and only LF ends a line: tr -d '\\r' < FILE takes the CRs out")

@@ -114,8 +114,10 @@ class Reasons(unittest.TestCase):
                 self.assertEqual(text.split(b"\n")[0].decode("ascii"), f"fault script line {script.count(bytes([10]))} {kind}")
 
     def test_scripts_that_stop_early(self):
-        self.assertIn("has no lines", explain.of_script(1, "end", b"")[1])
-        self.assertIn('line 2, "own - ff"', explain.of_script(5, "end", b"storage 1\nown - ff\n# more\n\n")[1])
+        for script in (b"", b"# a comment", b"\n\n"):
+            self.assertIn("has no lines", explain.of_script(1, "end", script)[1])
+        self.assertIn('skipped is "log"', explain.of_script(4, "end", b"storage 1\nown - ff\nlog")[1])
+        self.assertIn('isn\'t skipped is "own - ff"', explain.of_script(5, "end", b"storage 1\nown - ff\n# more\n\n")[1])
 
     def test_each_status(self):
         for status in (4, 5, 9):

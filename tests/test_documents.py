@@ -86,6 +86,21 @@ class Documents(unittest.TestCase):
                     whole = [line for line in lines if line and not line.startswith("#")]
                     self.assertEqual([line[4:] for line in block.rstrip("\n").split("\n")], whole)
 
+    def test_every_file_of_definitions_is_read_aloud(self):
+        """Each has a paragraph that begins with its bold name, one for each crate that has a file of this name."""
+        text = program.text_of(os.path.join(program.TOP, "docs", "DEFINITIONS.md")).decode("utf-8")
+        told = [word for bold in re.findall(r"\*\*([^*]+)\*\*", text) for word in re.findall(r"\w+", bold)]
+        crates = os.path.join(program.TOP, "crates")
+        files = {}
+        for crate in sorted(os.listdir(crates)):
+            specs = os.path.join(crates, crate, "specs")
+            for file in sorted(os.listdir(specs)) if os.path.isdir(specs) else []:
+                files.setdefault(file[: -len(".antt")], []).append(crate)
+        for name, of in files.items():
+            if name != "Lib":
+                with self.subTest(name, crates=of):
+                    self.assertGreaterEqual(told.count(name), len(of))
+
     def test_the_script_and_the_transcript_of_the_readme(self):
         """They stand in two columns."""
         text = program.text_of(os.path.join(program.TOP, "README.md")).decode("utf-8")

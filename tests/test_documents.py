@@ -101,6 +101,14 @@ class Documents(unittest.TestCase):
                 with self.subTest(name, crates=of):
                     self.assertGreaterEqual(told.count(name), len(of))
 
+    def test_every_crate_is_on_the_map(self):
+        text = program.text_of(os.path.join(program.TOP, "docs", "ARCHITECTURE.md")).decode("utf-8")
+        with open(os.path.join(program.TOP, "crates.txt"), encoding="utf-8") as lines:
+            crates = [line.partition(":")[0] for line in lines if ":" in line and not line.startswith("#")]
+        for crate in crates:
+            with self.subTest(crate):
+                self.assertIn(f"\n| {crate} | ", text)
+
     def test_the_script_and_the_transcript_of_the_readme(self):
         """They stand in two columns."""
         text = program.text_of(os.path.join(program.TOP, "README.md")).decode("utf-8")

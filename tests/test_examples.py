@@ -36,6 +36,13 @@ class Examples(unittest.TestCase):
                 first = program.text_of(program.script_of(name)).split(b"\n")[0]
                 self.assertTrue(first.startswith(b"# ") and b"look at" in first.lower(), first)
 
+    def test_the_list_of_examples_says_the_same(self):
+        listed = program.text_of(os.path.join(program.TOP, "docs", "EXAMPLES.md")).decode("utf-8")
+        for name in program.examples():
+            with self.subTest(name):
+                first = program.text_of(program.script_of(name)).decode("utf-8").split("\n")[0]
+                self.assertIn(f"\n| [{name}](../examples/{name}.script) | {first[2:]} |\n", listed)
+
     def test_both_forms_tell_the_same(self):
         for name in program.examples():
             with self.subTest(name):

@@ -71,6 +71,7 @@ def is_built(top=TOP):
 
 def mark(top=TOP, of=None):
     """Says that the program was built from these sources."""
+    os.chmod(program(top), 0o755)
     with open(stamp(top), "w", encoding="ascii") as made:
         made.write(of or digest(top))
 

@@ -140,7 +140,7 @@ class Building(Launcher):
         self.assertIn("rt isn't on the path", done.stderr.decode())
 
     def test_what_the_gate_built_is_taken(self):
-        write(self.at("crates", "storage_tool", "out", "storage_tool"), PROGRAM, 0o755)
+        write(self.at("crates", "storage_tool", "out", "storage_tool"), PROGRAM)
         subprocess.run(["python3", self.at("bin", "building.py"), "--mark"], check=True)
         done = self.run_with("replay", input=b"storage 1\n")
         self.assertEqual((done.returncode, self.calls()), (0, []))

@@ -163,6 +163,29 @@ two_flushes_played : Plays (stage two_flushes flushing_twice (all 0) 10) flushed
 unfolding readers_at_end
 two_flushes_played = plays (stage two_flushes flushing_twice (all 0) 10) 100 refl refl
 
+-- ---- a life that is killed in its third commit: of its calls 10 are those of the first one and 4 those of the second
+
+abbrev dying_third : LifePlan
+dying_third = record (life_to 4) {
+  dos = does Apply 2 ∷ flush ∷ does Apply 1 ∷ flush ∷ does Apply 1 ∷ flush ∷ [];
+  kill = Some (17, 0);
+}
+
+abbrev three_commits : Script
+three_commits = record two_flushes { log = sets 1 97 49 ∷ sets 2 97 50 ∷ sets 3 97 51 ∷ sets 4 97 52 ∷ []; lives = dying_third ∷ [] }
+
+abbrev third_flying : List Event
+third_flying =
+    Opened 0 ∷ Applied 1 ∷ Applied 2 ∷ event.Began 1 ∷ Durable 1 ∷ Applied 3 ∷ event.Began 2 ∷ Durable 2 ∷ Applied 4 ∷ event.Began 3 ∷ []
+
+third_dies : IsLife (given_by three_commits dying_third) (all 0) dying_third (life 0 third_flying [] ending.Killed)
+third_dies =
+    dies_in_flight (given_by three_commits dying_third) (all 0) dying_third third_flying [] 17 0 tt refl refl refl refl refl refl refl refl refl
+
+third_dies_as_written : Plays (stage three_commits dying_third (all 0) 10) (life 0 third_flying [] ending.Killed)
+unfolding readers_at_end
+third_dies_as_written = plays (stage three_commits dying_third (all 0) 10) 100 refl refl
+
 -- ---- how many calls two commits and a part of a third one may make
 
 fewest : EndsWithin 2 8

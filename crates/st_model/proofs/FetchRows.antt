@@ -196,14 +196,14 @@ too_old_split_played : Plays (stage too_old_split splitting (fresh too_old_split
 unfolding readers_at_end
 too_old_split_played = plays (stage too_old_split splitting (fresh too_old_split) 10) 100 refl refl
 
--- a cut before the first block makes no version too old that is fetched there, and of two cuts the later one counts
+-- a cut before the first block makes no version too old that is fetched there. Of more cuts the last that was reached counts
 cut_before_first_played : Plays (stage shard_fetch (record fetching { cuts = 0 ∷ [] }) (fresh shard_fetch) 10) fetched
 unfolding readers_at_end
 cut_before_first_played = plays (stage shard_fetch (record fetching { cuts = 0 ∷ [] }) (fresh shard_fetch) 10) 100 refl refl
 
-two_cuts_played : Plays (stage too_old_split (record splitting { cuts = 0 ∷ 1 ∷ [] }) (fresh too_old_split) 10) split
+three_cuts_played : Plays (stage too_old_split (record splitting { cuts = 0 ∷ 1 ∷ 9 ∷ [] }) (fresh too_old_split) 10) split
 unfolding readers_at_end
-two_cuts_played = plays (stage too_old_split (record splitting { cuts = 0 ∷ 1 ∷ [] }) (fresh too_old_split) 10) 100 refl refl
+three_cuts_played = plays (stage too_old_split (record splitting { cuts = 0 ∷ 1 ∷ 9 ∷ [] }) (fresh too_old_split) 10) 100 refl refl
 
 -- blocks and splits are asked of the source of fetches, and are marks
 asked_thrice : blocks split_once ≡ 3

@@ -189,6 +189,27 @@ watch_beside_played : Plays (stage watch_beside watching_beside (fresh watch_bes
 unfolding readers_at_end
 watch_beside_played = plays (stage watch_beside watching_beside (fresh watch_beside) 10) 100 refl refl
 
+-- ---- a watch that may be polled once alone
+
+abbrev watching_shortly : LifePlan
+watching_shortly = record (life_to 0) { asks = watches 1 1 97 None ∷ [] }
+
+abbrev impatient : Script
+impatient = record { settings = record settings { patience = 1 }; own = all_keys ∷ []; log = []; lives = watching_shortly ∷ [] }
+
+abbrev stood_shortly : Life
+stood_shortly = life 0 watched_once (answered 1 (1 ∷ []) Waiting ∷ []) ending.Closed
+
+impatient_demanded : IsDemanded impatient (fresh impatient) 0 None (begun watching_shortly (all 0) stood_shortly ∷ [])
+impatient_demanded =
+    closes_alone impatient watching_shortly watched_once stood_shortly.answers refl
+    (closes (given_by impatient watching_shortly) (all 0) watching_shortly watched_once stood_shortly.answers (refl, refl, tt)
+    refl refl refl refl refl refl refl refl refl)
+
+impatient_played : Plays (stage impatient watching_shortly (all 0) 10) stood_shortly
+unfolding readers_at_end
+impatient_played = plays (stage impatient watching_shortly (all 0) 10) 100 refl refl
+
 -- ---- other polls of these watches
 
 abbrev turning : Given

@@ -1,8 +1,10 @@
 -- A batch more on a board.
-use Rattle.std.proofs.Common.{◌≡◌, ◌∙◌, ◌≤◌, ◌<◌, ◌++◌, ℕ, Bool, true, false, cond, nat_lt, nat_le, leb-false, List, [], ◌∷◌, map, fold, Option, Some, None, refl, sym, ap, subst, arith}
+use Rattle.std.proofs.Common.{◌≡◌, ◌∙◌, ◌≤◌, ◌<◌, ◌++◌, ℕ, Bool, true, false, cond, nat_lt, nat_le, leb-false, le-leb, suc, List, [], ◌∷◌, filter, map, fold, Option, Some, None, refl, sym, ap, subst, arith}
 use Rattle.std.specs.List.{AllByRecursion, find, list_any}
 use Rattle.st_model.specs.Trace.{is_end, state_after}
-use Rattle.std.proofs.lemmas.List.{append-nil, map-append}
+use Rattle.std.specs.Option.{option_map_or}
+use Rattle.std.proofs.lemmas.List.{map-append}
+use Rattle.std.proofs.lemmas.List.Elements.{filter-append}
 use Rattle.std.proofs.lemmas.Option.{same_Some}
 use Rattle.st_fold.specs.Map.{batches_to}
 use Rattle.st_fold.specs.Plain.{Rises}
@@ -17,22 +19,22 @@ use Rattle.st_mutation.specs.Effect.{value_by}
 use Rattle.st_mutation.specs.declared.batch.Batch.{Batch}
 use Rattle.st_mutation.specs.declared.batch.Move.{Move}
 use Rattle.st_mutation.specs.declared.batch.Mutation.{Mutation}
-use Rattle.st_versioned.specs.Root.{decided, decision_above, value_at}
+use Rattle.st_versioned.specs.Root.{decided, decision_above}
 use Rattle.st_versioned.specs.Window.{Stands, Versions, begun, is_dated, made_above, sealed}
 use Rattle.st_versioned.specs.declared.change.Dated.{Dated}
-use Rattle.st_board.specs.Jobs.{Among, Store, batches_between, durable_ops, sent_of, value_behind}
+use Rattle.st_course.specs.Course.{Course, behind, clears_after, course_of}
+use Rattle.st_course.specs.Sent.{batches_between, sent_by, sent_of, value_of}
+use Rattle.st_board.specs.Base.{Among, IsWrite, Store}
 use Rattle.st_board.specs.Kept.{KeepsVersions}
 use Rattle.st_board.specs.Logs.{HasShortKey}
 use Rattle.st_board.specs.Stands.{Keeps, Standing, all_served}
 use Rattle.st_board.specs.Storing.{all_stored}
-use Rattle.st_board.specs.Values.{value_of}
 use Rattle.st_board.proofs.Between.{among-more, between-next, versions_of}
-use Rattle.st_board.proofs.Jobs.{durable-more}
-use Rattle.st_board.proofs.Lists.{all-filter, same-number}
+use Rattle.st_board.proofs.Lists.{all-append, all-filter, same-number}
 use Rattle.st_board.proofs.Logs.{IsNext, is-next, next_above, none_to}
 use Rattle.st_board.proofs.Sealing.{adds, kept-applied, making-first, sealed-is, sealed-mutations}
-use Rattle.st_board.proofs.Sending.{sent-all, sent-next}
-use Rattle.st_board.proofs.Traces.{goes-on-more, legal-more}
+use Rattle.st_board.proofs.Sending.{passes-dated, sent-all, sent-batch, users, writes-dated, writes-sent}
+use Rattle.st_board.proofs.Traces.{CourseGoesOn, goes-on-more, legal-more}
 
 -- what is found in a list is one of it
 all-found : {X : Type 0} → (P : X → Type 0) (p : X → Bool) (xs : List X) (x : X) → AllByRecursion P xs → find p xs ≡ Some x → P x
@@ -87,12 +89,19 @@ module _ (given : Given) (opening : Opening) (store : Store) (board : Standing) 
       ∙ ap (λ (t : Bool). cond t (Some (after_batch board.state batch)) None) (same-number batch.version)
       ∙ ap Some is_after
 
-  pub keeps-applied : ((version last : ℕ) (r : List Dated) (key : List ℕ) → is_dated last r ≡ true → decided (made_above version r) key ≡ decision_above version (decided r key))
+  -- it clears no more and no less
+  pub clears-applied : CourseGoesOn → clears_after given opening store.fresh (board.trace ++ Applied batch.version ∷ []) ≡ clears_after given opening store.fresh board.trace
+  clears-applied goes_on =
+      ap (λ o. option_map_or (λ (course : Course). course.clears) o [])
+      (goes_on given opening store.fresh board.trace board.state Next (Applied batch.version) keeps.course keeps.legal keeps.is_course stepped)
+      ∙ ap (λ o. option_map_or (λ (course : Course). course.clears) o []) (sym keeps.is_course)
+
+  pub keeps-applied : CourseGoesOn → ((version last : ℕ) (r : List Dated) (key : List ℕ) → is_dated last r ≡ true → decided (made_above version r) key ≡ decision_above version (decided r key))
       → ((mutation : Mutation) (to : Span) (key : List ℕ) (before : Option (List ℕ)) → within to key ≡ true → value_by_part key before (clipped mutation to) ≡ value_by key before mutation)
       → (window : Versions) → window ≡ sealed (all_stored board.base board.state.pieces (begun batch.version board.window) batch.mutations) → Stands window
       → (trace : List Event) → trace ≡ board.trace ++ Applied batch.version ∷ []
       → Keeps given opening store (record { trace = trace; state = Next; window = window; base = board.base })
-  keeps-applied decided_above clip_inside window made stands trace more = record {
+  keeps-applied goes_on decided_above clip_inside window made stands trace more = record {
     still = keeps.still;
     legal = ap (state_after given opening) more ∙ legal-more given opening board.trace (Applied batch.version) board.state Next keeps.legal keeps.going_on stepped;
     going_on = ap (list_any is_end) more ∙ goes-on-more board.trace (Applied batch.version) keeps.going_on refl;
@@ -115,17 +124,19 @@ module _ (given : Given) (opening : Opening) (store : Store) (board : Standing) 
         ∙ map-append (λ kept. kept.version) board.window.roots _
         ∙ ap (λ l. l ++ batch.version ∷ []) keeps.roots
         ∙ ap (λ l. durable ∷ l) (sym versions_next);
-    sent =
-        ap (λ (w : Versions). w.mutations) one
-        ∙ sealed-mutations After
-        ∙ sent-all given.log board.base durable newest batch.version next-is.above keeps.versions.base_is (λ mutation key now users. clip_inside mutation all_keys key now users)
-        (begun batch.version board.window) (value_of given.log newest) batch.mutations
-        (making-first given.log durable newest board.window board.base keeps.versions batch next-is decided_above clip_inside)
-        ∙ ap (λ l. l ++ map (λ m. (batch.version, m)) (sent_of all_served (value_of given.log newest) batch.mutations)) keeps.sent
-        ∙ sym (sent-next given.log durable newest batch next-is order);
-    committed = λ key users.
-        keeps.committed key users
-        ∙ ap (value_behind key (value_at store.pairs key)) (sym (ap (durable_ops given opening store) more ∙ durable-more given opening store board.trace (Applied batch.version) board.state keeps.legal keeps.going_on ∙ append-nil (durable_ops given opening store board.trace)));
+    course = Then;
+    is_course = ap (course_of given opening store.fresh) more ∙ goes_on given opening store.fresh board.trace board.state Next (Applied batch.version) keeps.course keeps.legal keeps.is_course stepped;
+    follows = record {
+      state = refl;
+      clears = keeps.follows.clears;
+      sent = made_of ∙ (λ i. keeps.follows.sent i ++ passes i) ∙ sym (filter-append (λ made. nat_lt durable made.0) keeps.course.sent dated) ∙ ap (filter (λ made. nat_lt durable made.0)) (sym sent_more);
+      writes =
+          subst (AllByRecursion (λ (made : ℕ × Mutation). IsWrite made.1)) (sym made_of)
+          (all-append (λ (made : ℕ × Mutation). IsWrite made.1) board.window.mutations dated keeps.follows.writes (writes-dated batch.version own (writes-sent (value_of given.log newest) batch.mutations)));
+      flown = keeps.follows.flown;
+      leads = keeps.follows.leads;
+      committed = keeps.follows.committed;
+    };
   }
     where
       durable : ℕ
@@ -147,3 +158,30 @@ module _ (given : Given) (opening : Opening) (store : Store) (board : Standing) 
       versions_next =
           ap (map (λ b. b.version)) (between-next given.log durable newest batch next-is order)
           ∙ map-append (λ b. b.version) (batches_between given.log durable newest) (batch ∷ [])
+
+      -- what is sent of the batch
+      own : List Mutation
+      own = sent_of users (value_of given.log newest) batch.mutations
+
+      dated : List (ℕ × Mutation)
+      dated = map (λ m. (batch.version, m)) own
+
+      Then : Course
+      Then = behind given keeps.course (Applied batch.version) Next
+
+      sent_more : Then.sent ≡ keeps.course.sent ++ dated
+      sent_more =
+          (λ i. keeps.course.sent ++ option_map_or (λ b. map (λ m. (batch.version, m)) (sent_by given (keeps.follows.state i) b)) (next_batch given (keeps.follows.state i)) [])
+          ∙ ap (λ (o : Option Batch). keeps.course.sent ++ option_map_or (λ b. map (λ m. (batch.version, m)) (sent_by given board.state b)) o []) is
+          ∙ ap (λ l. keeps.course.sent ++ map (λ m. (batch.version, m)) l) (sent-batch given board.state batch keeps.pieces no_moves next-is)
+
+      passes : dated ≡ filter (λ made. nat_lt durable made.0) dated
+      passes = sym (passes-dated (nat_lt durable) batch.version (le-leb (suc durable) batch.version (let lt = next-is.above in omega (arith, order))) own)
+
+      made_of : window.mutations ≡ board.window.mutations ++ dated
+      made_of =
+          ap (λ (w : Versions). w.mutations) one
+          ∙ sealed-mutations After
+          ∙ sent-all given.log board.base durable newest batch.version next-is.above keeps.versions.base_is (λ mutation key now is_users. clip_inside mutation all_keys key now is_users)
+          (begun batch.version board.window) (value_of given.log newest) batch.mutations
+          (making-first given.log durable newest board.window board.base keeps.versions batch next-is decided_above clip_inside)

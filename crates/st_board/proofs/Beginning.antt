@@ -1,6 +1,6 @@
 -- A board that opens.
-use Rattle.std.proofs.Common.{◌≡◌, ◌∙◌, ℕ, Bool, cond, nat_le, List, [], ◌∷◌, fold, map, Some, None, refl, sym, ap, subst}
-use Rattle.std.specs.List.{AllByRecursion, flat_map, list_any}
+use Rattle.std.proofs.Common.{◌≡◌, ◌∙◌, ℕ, Bool, true, false, cond, nat_le, List, [], ◌∷◌, fold, map, Some, None, refl, sym, ap, subst}
+use Rattle.std.specs.List.{AllByRecursion, list_any}
 use Rattle.st_fold.specs.Map.{Map, batches_to}
 use Rattle.st_fold.specs.declared.report.Event.{Event}
 use Rattle.st_fold.specs.declared.report.Event.TheVariants.{Opened}
@@ -11,12 +11,15 @@ use Rattle.st_model.specs.Trace.{is_end, state_after}
 use Rattle.st_model.specs.declared.piece.Piece.{Piece}
 use Rattle.st_mutation.specs.declared.batch.Batch.{Batch}
 use Rattle.st_mutation.specs.declared.batch.Move.{Move}
+use Rattle.st_mutation.specs.declared.batch.Mutation.{Mutation}
 use Rattle.st_versioned.specs.Root.{value_at}
 use Rattle.st_versioned.specs.Window.{Stands, Versions}
-use Rattle.st_board.specs.Jobs.{Store, durable_ops, sent_in, value_behind}
+use Rattle.st_course.specs.Course.{course_of, first_course}
+use Rattle.st_course.specs.Jobs.{clears_of}
+use Rattle.st_board.specs.Base.{IsWrite, Store}
 use Rattle.st_board.specs.Kept.{IsUsers, KeepsVersions}
 use Rattle.st_board.specs.Stands.{IsStill, Keeps, all_served}
-use Rattle.st_board.specs.Values.{value_of}
+use Rattle.st_course.specs.Sent.{value_of}
 use Rattle.st_board.proofs.Between.{between-none}
 use Rattle.st_board.proofs.Forgetting.{first_window, kept-first}
 use Rattle.st_board.proofs.Lists.{all-filter, same-number}
@@ -64,10 +67,20 @@ module _ (given : Given) (opening : Opening) (still : IsStill given opening) whe
     roots =
         ap (λ (w : Versions). map (λ kept. kept.version) w.roots) made
         ∙ ap (λ batches. opening.version ∷ map (λ batch. batch.version) batches) (sym (between-none given.log opening.version));
-    sent =
-        ap (λ (w : Versions). w.mutations) made
-        ∙ ap (flat_map (sent_in given.log all_served)) (sym (between-none given.log opening.version));
-    committed = λ key users.
-        ap (λ (m : Map). value_at m key) (sym stored)
-        ∙ ap (λ t. value_behind key (value_at store.pairs key) (durable_ops given opening store t)) (sym traced);
+    course = first_course given opening store.fresh;
+    is_course = ap (course_of given opening store.fresh) traced;
+    follows = record {
+      state = ap (λ (p : List Piece). record (first_state given opening) { pieces = p }) (sym parted);
+      clears = ap (clears_of store.fresh) still.available ∙ by_fresh store.fresh;
+      sent = ap (λ (w : Versions). w.mutations) made;
+      writes = subst (λ (w : Versions). AllByRecursion (λ (sent : ℕ × Mutation). IsWrite sent.1) w.mutations) (sym made) tt;
+      flown = refl;
+      leads = λ job is. absurd (cc (is));
+      committed = λ key users. ap (λ (m : Map). value_at m key) (sym stored);
+    };
   }
+    where
+      -- of all keys nothing is to be cleared
+      by_fresh : (t : Bool) → clears_of t (all_keys ∷ []) ≡ []
+      by_fresh true = refl
+      by_fresh false = refl

@@ -10,7 +10,8 @@ use Rattle.st_fold.specs.Plain.{Rises}
 use Rattle.st_model.specs.State.{greatest_to}
 use Rattle.st_mutation.specs.declared.batch.Batch.{Batch}
 use Rattle.st_ptree.specs.Entries.{last_of}
-use Rattle.st_board.specs.Jobs.{Among, batches_between}
+use Rattle.st_course.specs.Sent.{batches_between}
+use Rattle.st_board.specs.Base.{Among}
 use Rattle.st_board.proofs.Lists.{all-filter, all-passing, all-weaker, filter-all, filter-none}
 use Rattle.st_board.proofs.Logs.{IsNext}
 
@@ -52,6 +53,19 @@ module _ {X : Type 0} where
           ap (λ b. filter p (cond b (x ∷ filter q xs) (filter q xs))) isq
           ∙ rest
           ∙ sym (ap (λ b. filter q (cond b (x ∷ filter p xs) (filter p xs))) isp)
+
+  -- what passes one test and then another passes both
+  pub filter-both : (p q : X → Bool) (xs : List X) → filter (λ x. p x && q x) xs ≡ filter q (filter p xs)
+  filter-both p q [] = refl
+  filter-both p q (x ∷ xs) = by_test (p x) refl (filter-both p q xs)
+    where
+      by_test : (t : Bool) → p x ≡ t → filter (λ y. p y && q y) xs ≡ filter q (filter p xs) → filter (λ y. p y && q y) (x ∷ xs) ≡ filter q (filter p (x ∷ xs))
+      by_test true is rest =
+          (λ i. cond (is i && q x) (x ∷ rest i) (rest i))
+          ∙ sym (ap (λ b. filter q (cond b (x ∷ filter p xs) (filter p xs))) is)
+      by_test false is rest =
+          (λ i. cond (is i && q x) (x ∷ rest i) (rest i))
+          ∙ sym (ap (λ b. filter q (cond b (x ∷ filter p xs) (filter p xs))) is)
 
 module _ {X Y : Type 0} (f : X → Y) where
   pub filter-mapped : (p : Y → Bool) (xs : List X) → filter p (map f xs) ≡ map f (filter (λ x. p (f x)) xs)

@@ -4,7 +4,7 @@ use Rattle.std.specs.List.{list_all}
 use Rattle.std.proofs.lemmas.Bool.{and_from, and_parts}
 use Rattle.st_ops.specs.Grammar.{Fits, is_change}
 use Rattle.st_ops.specs.declared.op.Op.{Op}
-use Rattle.st_board.specs.Jobs.{AreChanges}
+use Rattle.st_board.specs.Base.{AreChanges}
 use Rattle.st_board.proofs.Lists.{all-append}
 
 all-changes : (first second : List Op) → list_all is_change first ≡ true → list_all is_change second ≡ true → list_all is_change (first ++ second) ≡ true

@@ -1,5 +1,5 @@
 -- A commit of a board: it begins, and it is durable.
-use Rattle.std.proofs.Common.{◌≡◌, ◌∙◌, ◌≤◌, ◌<◌, ◌^◌, inl, inr, ◌++◌, ◌-◌, ◌&&◌, ℕ, suc, max, Bool, true, false, cond, nat_le, nat_lt, leb-true, List, [], ◌∷◌, filter, fold, map, Option, Some, None, unwrap_or, refl, sym, ap, subst, arith}
+use Rattle.std.proofs.Common.{◌≡◌, ◌∙◌, ◌≤◌, ◌<◌, ◌^◌, inl, inr, ◌++◌, ◌-◌, ◌&&◌, ℕ, suc, max, Bool, true, false, cond, nat_le, nat_lt, leb-true, le-leb, List, [], ◌∷◌, filter, fold, map, Option, Some, None, option_and_then, unwrap_or, refl, sym, ap, subst, arith}
 use Rattle.std.specs.List.{AllByRecursion, flat_map, list_all, list_any}
 use Rattle.std.specs.Option.{option_map, option_map_or, option_or}
 use Rattle.std.proofs.lemmas.Bool.{lt-leb}
@@ -18,23 +18,26 @@ use Rattle.st_model.specs.Trace.{is_end, state_after}
 use Rattle.st_model.specs.declared.piece.Piece.{Piece}
 use Rattle.st_mutation.specs.declared.batch.Batch.{Batch}
 use Rattle.st_mutation.specs.declared.batch.Move.{Move}
+use Rattle.st_mutation.specs.declared.batch.Mutation.{Mutation}
 use Rattle.st_ops.specs.declared.op.Op.{Op}
 use Rattle.st_ptree.specs.Entries.{last_of}
 use Rattle.st_versioned.specs.Root.{value_at}
 use Rattle.st_versioned.specs.Window.{Stands, forgot, kept_from, last_to, mutations_to}
 use Rattle.st_versioned.specs.declared.window.Kept.{Kept}
-use Rattle.st_board.specs.Jobs.{Among, Store, all_served, batches_between, clear_of, clears_left, durable_ops, job_of, meta_of, op_of, ops_of, sent_between, value_behind}
+use Rattle.st_course.specs.Course.{Course, behind, clears_after, course_of, job_after}
+use Rattle.st_course.specs.Jobs.{clear_of, job_of, meta_of, op_of, rows_of}
+use Rattle.st_course.specs.Sent.{batches_between, value_of}
+use Rattle.st_course.specs.declared.job.CommitJob.{CommitJob}
+use Rattle.st_board.specs.Base.{Among, IsWrite, Store, value_behind}
 use Rattle.st_board.specs.Kept.{IsUsers, led_to}
 use Rattle.st_board.specs.Stands.{IsFlight, Keeps, Standing}
-use Rattle.st_board.specs.Values.{value_of}
-use Rattle.st_board.specs.declared.job.CommitJob.{CommitJob}
 use Rattle.st_board.proofs.Beginning.{all-assigned}
-use Rattle.st_board.proofs.Between.{Climbs, among-above, between-above, climbs-between, filter-mapped, from-among, greatest-among, greatest-is-last, last-among, last-mapped, versions_of}
+use Rattle.st_board.proofs.Between.{Climbs, among-above, between-above, climbs-between, filter-both, filter-mapped, filter-through, from-among, greatest-among, greatest-is-last, last-among, last-mapped, versions_of}
 use Rattle.st_board.proofs.Forgetting.{kept-committed}
-use Rattle.st_board.proofs.Jobs.{all-available, behind-append, behind-stored, durable-more, left-more}
+use Rattle.st_board.proofs.Jobs.{behind-append, behind-stored}
 use Rattle.st_board.proofs.Lists.{all-filter, all-passing, same-number}
-use Rattle.st_board.proofs.Sending.{ops-sent, sent-above, sent-to}
-use Rattle.st_board.proofs.Traces.{goes-on-more, legal-more}
+use Rattle.st_board.proofs.Sending.{ops-led}
+use Rattle.st_board.proofs.Traces.{CourseGoesOn, goes-on-more, legal-more}
 
 -- ---- the version that is due
 
@@ -141,45 +144,95 @@ module _ (given : Given) (opening : Opening) (store : Store) (board : Standing) 
       (λ i. cond (due i && same-number version i) (Some (began given board.state version)) None)
       ∙ ap Some (sym is_begun)
 
-  pub keeps-began : commit_due given board.state ≡ true → (trace : List Event) → trace ≡ board.trace ++ Began version ∷ []
-      → Keeps given opening store (record { trace = trace; state = Begun; window = board.window; base = board.base })
-  keeps-began due trace more = record {
-    still = keeps.still;
-    legal = ap (state_after given opening) more ∙ legal-more given opening board.trace (Began version) board.state Begun keeps.legal keeps.going_on (began-step due);
-    going_on = ap (list_any is_end) more ∙ goes-on-more board.trace (Began version) keeps.going_on refl;
-    oldest = keeps.oldest;
-    pieces = ap (by_phase rows_taken) keeps.pieces;
-    available = keeps.available;
-    flight = λ f is.
-        subst (IsFlight given Begun) (same_Some flight f is) (record { above = version-above; read = version-read; there = version-among; available = keeps.available });
-    versions = keeps.versions;
-    roots = keeps.roots;
-    sent = keeps.sent;
-    committed = λ key users.
-        keeps.committed key users
-        ∙ ap (value_behind key (value_at store.pairs key)) (sym (ap (durable_ops given opening store) more ∙ durable-more given opening store board.trace (Began version) board.state keeps.legal keeps.going_on ∙ append-nil (durable_ops given opening store board.trace)));
-  }
+  pub clears-kept : clears_after given opening store.fresh board.trace ≡ keeps.course.clears
+  clears-kept = ap (λ o. option_map_or (λ (course : Course). course.clears) o []) keeps.is_course
 
-  -- the window's mutations up to a version are what was sent up to it
-  kept-sent : (last : ℕ) → last ≤ newest → mutations_to last board.window ≡ sent_between given.log all_served durable last
-  kept-sent last le = ap (filter (λ made. nat_le made.0 last)) keeps.sent ∙ sent-to given.log durable last newest le
+  -- its job, and the course behind its beginning
+  abbrev pub Job : CommitJob
+  Job = job_of given keeps.course.clears keeps.course.sent Begun flight
 
-  -- the operations that are handed out are those of the job
-  pub job-begun : (clears : List Span) (meta : Meta) (ops : List Op) (trace : List Event) → trace ≡ board.trace ++ Began version ∷ [] → clears ≡ clears_left opening store board.trace
-      → meta.version ≡ version → meta.assigned ≡ all_keys ∷ [] → meta.available ≡ board.state.available
-      → ops ≡ map clear_of clears ++ flat_map (λ made. op_of made.1) (mutations_to meta.version board.window) ++ sets_of (stored meta)
-      → job_of given (clears_left opening store trace) Begun ≡ Some (record { version = version; ops = ops })
-  job-begun clears meta ops trace more left is_version is_assigned is_available are =
-      ap (λ (l : List Op). Some (record { version = version; ops = l })) (sym (are ∙ same))
+  abbrev pub Flying : Course
+  Flying = behind given keeps.course (Began version) Begun
+
+  -- what it takes of what was sent is what the window keeps up to its version, and no rows
+  pub job-ops : Job.ops ≡ map clear_of keeps.course.clears ++ flat_map (λ made. op_of made.1) (mutations_to version board.window) ++ sets_of (stored (meta_of given flight))
+  job-ops =
+      (λ i.
+      map clear_of keeps.course.clears
+      ++ flat_map (λ made. op_of made.1) (taken i)
+      ++ flat_map (rows_of given.log) (by_phase rows_taken (keeps.pieces i))
+      ++ sets_of (stored (meta_of given flight)))
+      ∙ ap (λ (l : List Op). l ++ sets_of (stored (meta_of given flight))) (append-nil (map clear_of keeps.course.clears ++ flat_map (λ made. op_of made.1) (mutations_to version board.window)))
     where
-      is_meta : meta ≡ meta_of given flight
-      is_meta = λ i. record { version = is_version i; assigned = (is_assigned ∙ sym (all-assigned given opening keeps.still version)) i; available = is_available i }
+      taken : filter (λ made. nat_lt durable made.0 && nat_le made.0 version) keeps.course.sent ≡ mutations_to version board.window
+      taken =
+          filter-both (λ (made : ℕ × Mutation). nat_lt durable made.0) (λ made. nat_le made.0 version) keeps.course.sent
+          ∙ ap (filter (λ made. nat_le made.0 version)) (sym keeps.follows.sent)
 
-      same : map clear_of clears ++ flat_map (λ made. op_of made.1) (mutations_to meta.version board.window) ++ sets_of (stored meta) ≡ ops_of given (clears_left opening store trace) durable flight
-      same = λ i.
-          map clear_of ((left ∙ sym (ap (clears_left opening store) more ∙ left-more opening store board.trace (Began version))) i)
-          ++ flat_map (λ made. op_of made.1) ((ap (λ v. mutations_to v board.window) is_version ∙ kept-sent version version-read) i)
-          ++ sets_of (stored (is_meta i))
+  -- behind it the base is that of its version
+  job-leads : (key : List ℕ) → IsUsers key → value_behind key (value_at board.base key) Job.ops ≡ value_of given.log version key
+  job-leads key users =
+      ap (value_behind key (value_at board.base key)) (job-ops ∙ ap (λ clears. map clear_of clears ++ ops ++ sets_of (stored (meta_of given flight))) keeps.follows.clears)
+      ∙ behind-append key (value_at board.base key) ops (sets_of (stored (meta_of given flight)))
+      ∙ behind-stored key (value_behind key (value_at board.base key) ops) (meta_of given flight) users
+      ∙ ops-led key (value_at board.base key) (mutations_to version board.window)
+      (all-filter (λ (made : ℕ × Mutation). IsWrite made.1) (λ made. nat_le made.0 version) board.window.mutations keeps.follows.writes)
+      ∙ ap (λ before. led_to key before (mutations_to version board.window)) (keeps.versions.base_is key users)
+      ∙ keeps.versions.leads version key version-above version-read users
+    where
+      ops : List Op
+      ops = flat_map (λ made. op_of made.1) (mutations_to version board.window)
+
+  module _ (goes_on : CourseGoesOn) (due : commit_due given board.state ≡ true) (trace : List Event) (more : trace ≡ board.trace ++ Began version ∷ []) where
+    is_flying : course_of given opening store.fresh trace ≡ Some Flying
+    is_flying =
+        ap (course_of given opening store.fresh) more
+        ∙ goes_on given opening store.fresh board.trace board.state Begun (Began version) keeps.course keeps.legal keeps.is_course (began-step due)
+
+    pub keeps-began : Keeps given opening store (record { trace = trace; state = Begun; window = board.window; base = board.base })
+    keeps-began = record {
+      still = keeps.still;
+      legal = ap (state_after given opening) more ∙ legal-more given opening board.trace (Began version) board.state Begun keeps.legal keeps.going_on (began-step due);
+      going_on = ap (list_any is_end) more ∙ goes-on-more board.trace (Began version) keeps.going_on refl;
+      oldest = keeps.oldest;
+      pieces = ap (by_phase rows_taken) keeps.pieces;
+      available = keeps.available;
+      flight = λ f is.
+          subst (IsFlight given Begun) (same_Some flight f is) (record { above = version-above; read = version-read; there = version-among; available = keeps.available });
+      versions = keeps.versions;
+      roots = keeps.roots;
+      course = Flying;
+      is_course = is_flying;
+      follows = record {
+        state = refl;
+        clears = keeps.follows.clears;
+        sent = keeps.follows.sent;
+        writes = keeps.follows.writes;
+        flown = refl;
+        leads = λ job is key users.
+            subst (λ (j : CommitJob). value_behind key (value_at board.base key) j.ops ≡ value_of given.log j.version key) (same_Some Job job is) (job-leads key users);
+        committed = keeps.follows.committed;
+      };
+    }
+
+    pub clears-began : clears_after given opening store.fresh trace ≡ clears_after given opening store.fresh board.trace
+    clears-began = ap (λ o. option_map_or (λ (course : Course). course.clears) o []) is_flying ∙ sym clears-kept
+
+    -- the operations that are handed out are those of the job
+    pub job-begun : (clears : List Span) (meta : Meta) (ops : List Op) → clears ≡ keeps.course.clears
+        → meta.version ≡ version → meta.assigned ≡ all_keys ∷ [] → meta.available ≡ board.state.available
+        → ops ≡ map clear_of clears ++ flat_map (λ made. op_of made.1) (mutations_to meta.version board.window) ++ sets_of (stored meta)
+        → job_after given opening store.fresh trace ≡ Some (record { version = version; ops = ops })
+    job-begun clears meta ops left is_version is_assigned is_available are =
+        ap (option_and_then (λ (course : Course). course.job)) is_flying
+        ∙ ap (λ (l : List Op). Some (record { version = version; ops = l })) (job-ops ∙ sym (are ∙ same))
+      where
+        is_meta : meta ≡ meta_of given flight
+        is_meta = λ i. record { version = is_version i; assigned = (is_assigned ∙ sym (all-assigned given opening keeps.still version)) i; available = is_available i }
+
+        same : map clear_of clears ++ flat_map (λ made. op_of made.1) (mutations_to meta.version board.window) ++ sets_of (stored meta)
+            ≡ map clear_of keeps.course.clears ++ flat_map (λ made. op_of made.1) (mutations_to version board.window) ++ sets_of (stored (meta_of given flight))
+        same = λ i. map clear_of (left i) ++ flat_map (λ made. op_of made.1) (mutations_to (is_version i) board.window) ++ sets_of (stored (is_meta i))
 
   -- what it will store is a state
   pub state-stored : (v : ℕ) (available : List Span) → v < 2 ^ 64 → available ≡ board.state.available → IsState (meta_of given (record { version = v; available = available }))
@@ -196,40 +249,31 @@ module _ (given : Given) (opening : Opening) (store : Store) (board : Standing) 
   -- ---- a commit is durable
 
   -- behind the job in flight the base is that of the job's version
-  ops-lead : (f : Opening) → board.state.flight ≡ Some f → (key : List ℕ) → IsUsers key
-      → value_behind key (value_at board.base key) (ops_of given (clears_left opening store board.trace) durable f) ≡ value_of given.log f.version key
-  ops-lead f in_flight key users =
-      ap (λ clears. value_behind key (value_at board.base key) (ops_of given clears durable f)) (all-available opening store board.trace keeps.still.available)
-      ∙ behind-append key (value_at board.base key) ops (sets_of (stored (meta_of given f)))
-      ∙ behind-stored key (value_behind key (value_at board.base key) ops) (meta_of given f) users
-      ∙ ops-sent given.log durable f.version key (value_at board.base key)
-      ∙ (λ i. led_to key (keeps.versions.base_is key users i) (sym (kept-sent f.version was.read) i))
-      ∙ keeps.versions.leads f.version key was.above was.read users
-    where
-      was : IsFlight given board.state f
-      was = keeps.flight f in_flight
-
-      ops : List Op
-      ops = flat_map (λ made. op_of made.1) (sent_between given.log all_served durable f.version)
-
-  pub flight-leads : (job : CommitJob) → job_of given (clears_left opening store board.trace) board.state ≡ Some job → (key : List ℕ) → IsUsers key
+  pub flight-leads : (job : CommitJob) → job_after given opening store.fresh board.trace ≡ Some job → (key : List ℕ) → IsUsers key
       → value_behind key (value_at board.base key) job.ops ≡ value_of given.log job.version key
-  flight-leads job is key users = by_flight board.state.flight refl is
-    where
-      by_flight : (o : Option Opening) → board.state.flight ≡ o → option_map (λ f. record { version = f.version; ops = ops_of given (clears_left opening store board.trace) durable f }) o ≡ Some job
-          → value_behind key (value_at board.base key) job.ops ≡ value_of given.log job.version key
-      by_flight None none is = absurd (cc (is))
-      by_flight (Some f) some is =
-          subst (λ (j : CommitJob). value_behind key (value_at board.base key) j.ops ≡ value_of given.log j.version key)
-          (same_Some (record { version = f.version; ops = ops_of given (clears_left opening store board.trace) durable f }) job is)
-          (ops-lead f some key users)
+  flight-leads job is = keeps.follows.leads job (sym (ap (option_and_then (λ (course : Course). course.job)) keeps.is_course) ∙ is)
 
-  module _ (f : Opening) (in_flight : board.state.flight ≡ Some f) where
+  -- a job that is in flight has its commit
+  pub flight-there : (job : CommitJob) → job_after given opening store.fresh board.trace ≡ Some job → board.state.flight ≡ None → ⊥
+  flight-there job is none =
+      cc (sym (ap (option_map (λ (j : CommitJob). j.version)) (sym (ap (option_and_then (λ (course : Course). course.job)) keeps.is_course) ∙ is))
+      ∙ keeps.follows.flown
+      ∙ ap (option_map (λ (g : Opening). g.version)) none)
+
+  module _ (f : Opening) (in_flight : board.state.flight ≡ Some f) (job : CommitJob) (in_course : job_after given opening store.fresh board.trace ≡ Some job) where
     abbrev pub Ended : State
     Ended = ended board.state f
 
     was_flight : IsFlight given board.state f
     was_flight = keeps.flight f in_flight
+
+    has_job : keeps.course.job ≡ Some job
+    has_job = sym (ap (option_and_then (λ (course : Course). course.job)) keeps.is_course) ∙ in_course
+
+    pub job-flown : f.version ≡ job.version
+    job-flown =
+        same_Some f.version job.version
+        (ap (option_map (λ (g : Opening). g.version)) (sym in_flight) ∙ sym keeps.follows.flown ∙ ap (option_map (λ (j : CommitJob). j.version)) has_job)
 
     pub ended-step : end_commit board.state f.version board.state.flight ≡ Some Ended
     ended-step =
@@ -262,11 +306,17 @@ module _ (given : Given) (opening : Opening) (store : Store) (board : Standing) 
             by_last None is = absurd (cc (is))
             by_last (Some kept) is = same_Some kept.version f.version is
 
-    pub keeps-committed : (next : Map)
-        → ((key : List ℕ) → IsUsers key → value_at next key ≡ value_behind key (value_at board.base key) (ops_of given (clears_left opening store board.trace) durable f))
+    -- nothing is left to be cleared
+    pub clears-committed : CourseGoesOn → clears_after given opening store.fresh (board.trace ++ Durable f.version ∷ []) ≡ []
+    clears-committed goes_on =
+        ap (λ o. option_map_or (λ (course : Course). course.clears) o [])
+        (goes_on given opening store.fresh board.trace board.state Ended (Durable f.version) keeps.course keeps.legal keeps.is_course ended-step)
+
+    pub keeps-committed : CourseGoesOn → (next : Map)
+        → ((key : List ℕ) → IsUsers key → value_at next key ≡ value_behind key (value_at board.base key) job.ops)
         → (trace : List Event) → trace ≡ board.trace ++ Durable f.version ∷ [] → Stands (forgot f.version board.window)
         → Keeps given opening store (record { trace = trace; state = Ended; window = forgot f.version board.window; base = next })
-    keeps-committed next based trace more stands = record {
+    keeps-committed goes_on next based trace more stands = record {
       still = keeps.still;
       legal = ap (state_after given opening) more ∙ legal-more given opening board.trace (Durable f.version) board.state Ended keeps.legal keeps.going_on ended-step;
       going_on = ap (list_any is_end) more ∙ goes-on-more board.trace (Durable f.version) keeps.going_on refl;
@@ -274,29 +324,37 @@ module _ (given : Given) (opening : Opening) (store : Store) (board : Standing) 
       pieces = ap (by_phase (rows_in_base f.version)) keeps.pieces;
       available = was_flight.available;
       flight = λ g is. absurd (cc (is));
-      versions = kept-committed given.log durable newest board.window board.base keeps.versions f.version was_flight.above was_flight.read next (λ key users. based key users ∙ ops-lead f in_flight key users) stands;
+      versions =
+          kept-committed given.log durable newest board.window board.base keeps.versions f.version was_flight.above was_flight.read next
+          (λ key users. based key users ∙ flight-leads job in_course key users ∙ ap (λ v. value_of given.log v key) (sym job-flown)) stands;
       roots =
           ap (λ m. map (λ kept. kept.version) (filter (λ kept. nat_le (kept_from m board.window.roots) kept.version) board.window.roots)) is_version
           ∙ roots-left board.window.roots keeps.roots;
-      sent =
-          ap (λ m. filter (λ made. nat_lt m made.0) board.window.mutations) is_version
-          ∙ ap (filter (λ made. nat_lt f.version made.0)) keeps.sent
-          ∙ sent-above given.log durable f.version newest was_flight.above;
-      committed = λ key users.
-          based key users
-          ∙ ap (λ v. value_behind key v ops) (keeps.committed key users)
-          ∙ sym (behind-append key (value_at store.pairs key) (durable_ops given opening store board.trace) ops)
-          ∙ ap (value_behind key (value_at store.pairs key)) (sym more_ops);
+      course = behind given keeps.course (Durable f.version) Ended;
+      is_course =
+          ap (course_of given opening store.fresh) more
+          ∙ goes_on given opening store.fresh board.trace board.state Ended (Durable f.version) keeps.course keeps.legal keeps.is_course ended-step;
+      follows = record {
+        state = refl;
+        clears = refl;
+        sent =
+            ap (λ m. filter (λ made. nat_lt m made.0) board.window.mutations) is_version
+            ∙ ap (filter (λ made. nat_lt f.version made.0)) keeps.follows.sent
+            ∙ filter-through (λ (made : ℕ × Mutation). nat_lt f.version made.0) (λ made. nat_lt durable made.0) passes keeps.course.sent;
+        writes = all-filter (λ (made : ℕ × Mutation). IsWrite made.1) (λ made. nat_lt (max board.window.forgotten f.version) made.0) board.window.mutations keeps.follows.writes;
+        flown = refl;
+        leads = λ other is. absurd (cc (is));
+        committed = λ key users.
+            based key users
+            ∙ ap (λ v. value_behind key v job.ops) (keeps.follows.committed key users)
+            ∙ sym (behind-append key (value_at store.pairs key) keeps.course.made job.ops)
+            ∙ ap (λ (o : Option CommitJob). value_behind key (value_at store.pairs key) (keeps.course.made ++ option_map_or (λ (j : CommitJob). j.ops) o [])) (sym has_job);
+      };
     }
       where
-        ops : List Op
-        ops = ops_of given (clears_left opening store board.trace) durable f
-
         is_version : max board.window.forgotten f.version ≡ f.version
         is_version = let e = keeps.versions.forgotten_is in let low = was_flight.above in omega arith
 
-        more_ops : durable_ops given opening store trace ≡ durable_ops given opening store board.trace ++ ops
-        more_ops =
-            ap (durable_ops given opening store) more
-            ∙ durable-more given opening store board.trace (Durable f.version) board.state keeps.legal keeps.going_on
-            ∙ ap (λ (o : Option Opening). durable_ops given opening store board.trace ++ option_map_or (λ (job : CommitJob). job.ops) (option_map (λ g. record { version = g.version; ops = ops_of given (clears_left opening store board.trace) durable g }) o) []) in_flight
+        passes : (made : ℕ × Mutation) → nat_lt f.version made.0 ≡ true → nat_lt durable made.0 ≡ true
+        passes made is =
+            le-leb (suc durable) made.0 (let above = leb-true (suc f.version) made.0 is in let low = was_flight.above in omega arith)

@@ -20,7 +20,7 @@ use Rattle.st_versioned.specs.Root.{Decision, behind, decided, same}
 use Rattle.st_versioned.specs.declared.change.Change.{Change}
 use Rattle.st_versioned.specs.declared.change.Change.TheVariants as change
 use Rattle.st_versioned.specs.declared.change.Dated.{Dated}
-use Rattle.st_board.specs.Storing.{compares, result_as, stored_as}
+use Rattle.st_course.specs.Sent.{compares, result_as, stored_as}
 use Rattle.st_board.specs.Tells.{MakesTo}
 use Rattle.st_board.proofs.Telling.{makes-decided}
 

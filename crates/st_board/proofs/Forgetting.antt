@@ -16,7 +16,7 @@ use Rattle.st_versioned.specs.declared.change.Dated.{Dated}
 use Rattle.st_versioned.specs.declared.window.Kept.{Kept}
 use Rattle.st_board.specs.Kept.{IsUsers, KeepsVersions, NeverFall, led_to}
 use Rattle.st_board.specs.Tells.{TellsTo}
-use Rattle.st_board.specs.Values.{value_of}
+use Rattle.st_course.specs.Sent.{value_of}
 use Rattle.st_board.proofs.Lists.{all-filter, all-last, all-passing, all-weaker, filter-all, filter-none, last-none}
 use Rattle.st_board.proofs.Sealing.{inside}
 use Rattle.st_board.proofs.Telling.{tells-durable}

@@ -23,6 +23,10 @@ module _ {X : Type 0} where
   some_or None x is = cc (is)
   some_or (Some y) x is = cc (is)
 
+  pub none-is : (o : Option X) → ((x : X) → o ≡ Some x → ⊥) → o ≡ None
+  none-is None none = refl
+  none-is (Some x) none = absurd (none x refl)
+
   pub last-none : (xs : List X) → last_of xs ≡ None → xs ≡ []
   last-none [] is = refl
   last-none (x ∷ xs) is = absurd (some_or (last_of xs) x is)

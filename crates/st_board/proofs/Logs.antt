@@ -9,7 +9,7 @@ use Rattle.st_fold.specs.Map.{apply_batch, batches_to, folded, value_at}
 use Rattle.st_fold.specs.Plain.{Rises}
 use Rattle.st_fold.specs.Effects.{after_all}
 use Rattle.st_mutation.specs.Effect.{value_by}
-use Rattle.st_board.specs.Values.{value_of}
+use Rattle.st_course.specs.Sent.{value_of}
 
 -- the batch that comes next above a version
 abbrev pub next_above : List Batch → ℕ → Option Batch

@@ -9,7 +9,7 @@ use Rattle.st_versioned.specs.Root.{value_at}
 use Rattle.st_board.specs.Logs.{HasShortKey}
 use Rattle.st_board.specs.Rows.{IsRow, row_given, row_opening, row_pairs}
 use Rattle.st_board.specs.Stands.{IsStill}
-use Rattle.st_board.specs.Values.{value_of}
+use Rattle.st_course.specs.Sent.{value_of}
 
 module _ (first second : Batch) (row : IsRow first second) where
   abbrev log : List Batch

@@ -19,10 +19,10 @@ use Rattle.st_versioned.specs.Window.{Stands, Versions, begun, is_dated, last_to
 use Rattle.st_versioned.specs.declared.change.Dated.{Dated}
 use Rattle.st_versioned.specs.declared.window.Kept.{Kept}
 use Rattle.st_board.specs.Kept.{IsUsers, KeepsVersions, NeverFall, led_to}
-use Rattle.st_board.specs.Storing.{all_stored, making_root, stored_as, stored_in, stored_parts, with_stored}
+use Rattle.st_board.specs.Storing.{all_stored, making_root, stored_in, stored_parts, with_stored}
 use Rattle.st_board.specs.Stands.{all_served}
 use Rattle.st_board.specs.Tells.{TellsTo}
-use Rattle.st_board.specs.Values.{value_of}
+use Rattle.st_course.specs.Sent.{stored_as, value_of}
 use Rattle.st_board.proofs.Lists.{all-append, all-last, all-weaker, filter-all, filter-none, last-is, last-more, last-none}
 use Rattle.st_board.proofs.Logs.{IsNext, value-between, value-next}
 use Rattle.st_board.proofs.Stores.{Making, SameButMaking, kept_at, making-all, noted, root_with, with-making, with-noted, with-same}

@@ -1,12 +1,14 @@
 -- What the window keeps is what was sent.
-use Rattle.std.proofs.Common.{◌≡◌, ◌∙◌, ◌≤◌, ◌<◌, ◌++◌, ◌-◌, ℕ, Bool, true, false, cond, nat_le, nat_lt, List, [], ◌∷◌, filter, map, Option, Some, None, refl, sym, ap, arith, append_assoc}
-use Rattle.std.specs.List.{AllByRecursion, flat_map}
+use Rattle.std.proofs.Common.{◌≡◌, ◌∙◌, ◌<◌, ◌++◌, ◌-◌, ℕ, Bool, true, false, cond, List, [], ◌∷◌, filter, fold, map, Option, Some, None, option_and_then, refl, sym, ap, arith, append_assoc}
+use Rattle.std.specs.List.{AllByRecursion, cons_option, flat_map}
 use Rattle.std.specs.Option.{option_map, option_map_or}
 use Rattle.std.proofs.lemmas.List.{append-nil, map-append}
-use Rattle.std.proofs.lemmas.Grind.{flat_map-append}
-use Rattle.std.proofs.lemmas.List.Elements.{filter-append}
 use Rattle.st_atomic.specs.Atomic.{changed}
+use Rattle.st_course.specs.Jobs.{op_of}
+use Rattle.st_course.specs.Sent.{compares, dropped, held_of, result_as, sent_by, sent_in, sent_of, sent_spans, sent_to, stored_as, value_of}
 use Rattle.st_key.specs.Spans.{Span, all_keys, within}
+use Rattle.st_model.specs.Pieces.{inject, move_piece}
+use Rattle.st_model.specs.State.{Given, State, assigned}
 use Rattle.st_mutation.specs.Clip.{clipped, common, value_by_part}
 use Rattle.st_mutation.specs.Effect.{value_by}
 use Rattle.st_mutation.specs.declared.batch.Batch.{Batch}
@@ -14,30 +16,26 @@ use Rattle.st_mutation.specs.declared.batch.Mutation.{Mutation}
 use Rattle.st_mutation.specs.declared.batch.Mutation.TheVariants.{Set, Clear, Atomic}
 use Rattle.st_versioned.specs.Root.{Pairs, over, value_at}
 use Rattle.st_versioned.specs.Window.{Versions}
-use Rattle.st_board.specs.Jobs.{all_served, batches_between, op_of, sent_between, sent_in, sent_of, sent_to, value_behind}
+use Rattle.st_board.specs.Base.{IsWrite, all_served, value_behind}
 use Rattle.st_board.specs.Kept.{IsUsers, led_to}
-use Rattle.st_board.specs.Storing.{all_stored, compares, making_root, result_as, stored_as, stored_in, stored_parts}
-use Rattle.st_board.specs.Values.{value_of}
-use Rattle.st_board.proofs.Between.{between-above, between-next, between-to}
+use Rattle.st_board.specs.Storing.{all_stored, making_root, stored_in, stored_parts}
 use Rattle.st_board.proofs.Lists.{all-append}
 use Rattle.st_board.proofs.Logs.{IsNext, value-between}
 use Rattle.st_board.proofs.Stores.{Making, making-part, noted, value-now, with-noted}
 
+-- the keys of users, as spans
+abbrev pub users : List Span
+users = all_keys ∷ []
+
 -- what is stored, as a list
 abbrev pub listed : Option Mutation → List Mutation
-listed s = option_map_or (λ m. m ∷ []) s []
+listed s = cons_option s []
 
 -- what is stored of a part, where keys have these values before
 abbrev stored_of_part : (List ℕ → Option (List ℕ)) → Option Mutation → List Mutation
-stored_of_part before part = option_map_or (λ p. listed (stored_as p before)) part []
+stored_of_part before part = listed (option_and_then (λ p. stored_as p before) part)
 
 -- ---- sets and clears
-
--- a set or a clear
-abbrev pub IsWrite : Mutation → Type 0
-IsWrite (Set key value) = Unit {0}
-IsWrite (Clear span) = Unit {0}
-IsWrite (Atomic op key operand) = ⊥
 
 -- what is stored of a mutation is noted as it is
 noted-stored : (version : ℕ) (mutation : Mutation) (before : List ℕ → Option (List ℕ)) → noted version (stored_as mutation before) ≡ map (λ m. (version, m)) (listed (stored_as mutation before))
@@ -73,35 +71,24 @@ writes-part : (before : List ℕ → Option (List ℕ)) (part : Option Mutation)
 writes-part before None = tt
 writes-part before (Some part) = writes-stored part before
 
-writes-sent : (before : List ℕ → Option (List ℕ)) (mutations : List Mutation) → AllByRecursion IsWrite (sent_of all_served before mutations)
+pub writes-sent : (before : List ℕ → Option (List ℕ)) (mutations : List Mutation) → AllByRecursion IsWrite (sent_of users before mutations)
 writes-sent before [] = tt
 writes-sent before (mutation ∷ mutations) =
-    all-append IsWrite (flat_map (sent_to before mutation) all_served) (sent_of all_served (λ key. value_by key (before key) mutation) mutations)
-    (all-append IsWrite (stored_of_part before (clipped mutation all_keys)) [] (writes-part before (clipped mutation all_keys)) tt)
+    all-append IsWrite (sent_to users before mutation) (sent_of users (λ key. value_by key (before key) mutation) mutations)
+    (writes-part before (clipped mutation all_keys))
     (writes-sent (λ key. value_by key (before key) mutation) mutations)
 
-writes-dated : (version : ℕ) (mutations : List Mutation) → AllByRecursion IsWrite mutations → AllByRecursion (λ (sent : ℕ × Mutation). IsWrite sent.1) (map (λ m. (version, m)) mutations)
+pub writes-dated : (version : ℕ) (mutations : List Mutation) → AllByRecursion IsWrite mutations → AllByRecursion (λ (sent : ℕ × Mutation). IsWrite sent.1) (map (λ m. (version, m)) mutations)
 writes-dated version [] all = tt
 writes-dated version (mutation ∷ mutations) all = (all.0, writes-dated version mutations all.1)
 
-writes-batches : (log batches : List Batch) → AllByRecursion (λ (sent : ℕ × Mutation). IsWrite sent.1) (flat_map (sent_in log all_served) batches)
-writes-batches log [] = tt
-writes-batches log (batch ∷ batches) =
-    all-append (λ (sent : ℕ × Mutation). IsWrite sent.1) (sent_in log all_served batch) (flat_map (sent_in log all_served) batches)
-    (writes-dated batch.version (sent_of all_served (value_of log (batch.version - 1)) batch.mutations) (writes-sent (value_of log (batch.version - 1)) batch.mutations))
-    (writes-batches log batches)
-
 -- sets and clears do to a key as operations what they do as mutations
-ops-led : (key : List ℕ) (before : Option (List ℕ)) (sent : List (ℕ × Mutation)) → AllByRecursion (λ (made : ℕ × Mutation). IsWrite made.1) sent
+pub ops-led : (key : List ℕ) (before : Option (List ℕ)) (sent : List (ℕ × Mutation)) → AllByRecursion (λ (made : ℕ × Mutation). IsWrite made.1) sent
     → value_behind key before (flat_map (λ made. op_of made.1) sent) ≡ led_to key before sent
 ops-led key before [] all = refl
 ops-led key before ((version, Set other value) ∷ sent) all = ops-led key (value_by key before (Set other value)) sent all.1
 ops-led key before ((version, Clear span) ∷ sent) all = ops-led key (value_by key before (Clear span)) sent all.1
 ops-led key before ((version, Atomic op other operand) ∷ sent) all = absurd all.0
-
-pub ops-sent : (log : List Batch) (above upto : ℕ) (key : List ℕ) (before : Option (List ℕ))
-    → value_behind key before (flat_map (λ made. op_of made.1) (sent_between log all_served above upto)) ≡ led_to key before (sent_between log all_served above upto)
-ops-sent log above upto key before = ops-led key before (sent_between log all_served above upto) (writes-batches log (batches_between log above upto))
 
 -- ---- the mutations that a batch sends
 
@@ -130,10 +117,10 @@ module _ (log : List Batch) (base : Pairs) (durable newest version : ℕ) (later
   AllMaking window now = (key : List ℕ) → IsUsers key → Making log base durable newest version window key (now key)
 
   sent-part : (window : Versions) (now : List ℕ → Option (List ℕ)) (mutation : Mutation) → AllMaking window now
-      → (stored_parts base all_served window mutation).mutations ≡ window.mutations ++ map (λ m. (version, m)) (flat_map (sent_to now mutation) all_served)
+      → (stored_parts base all_served window mutation).mutations ≡ window.mutations ++ map (λ m. (version, m)) (sent_to users now mutation)
   sent-part window now mutation making =
       by_part (clipped mutation all_keys)
-      ∙ ap (λ l. window.mutations ++ map (λ m. (version, m)) l) (part-same mutation before now (λ key users. is_now key users) ∙ sym (append-nil (stored_of_part now (clipped mutation all_keys))))
+      ∙ ap (λ l. window.mutations ++ map (λ m. (version, m)) l) (part-same mutation before now (λ key is. is_now key is))
     where
       before : List ℕ → Option (List ℕ)
       before = over (making_root window) base
@@ -142,18 +129,18 @@ module _ (log : List Batch) (base : Pairs) (durable newest version : ℕ) (later
       first = making [] refl
 
       is_now : (key : List ℕ) → IsUsers key → before key ≡ now key
-      is_now key users = value-now log base durable newest version key later (has key users) window (now key) (making key users)
+      is_now key is = value-now log base durable newest version key later (has key is) window (now key) (making key is)
 
       by_part : (part : Option Mutation) → (option_map_or (stored_in base window) part window).mutations ≡ window.mutations ++ map (λ m. (version, m)) (stored_of_part before part)
       by_part None = sym (append-nil window.mutations)
       by_part (Some part) = with-noted version first.root (stored_as part before) window first.is ∙ ap (λ l. window.mutations ++ l) (noted-stored version part before)
 
   pub sent-all : (window : Versions) (now : List ℕ → Option (List ℕ)) (mutations : List Mutation) → AllMaking window now
-      → (all_stored base all_served window mutations).mutations ≡ window.mutations ++ map (λ m. (version, m)) (sent_of all_served now mutations)
+      → (all_stored base all_served window mutations).mutations ≡ window.mutations ++ map (λ m. (version, m)) (sent_of users now mutations)
   sent-all window now [] making = sym (append-nil window.mutations)
   sent-all window now (mutation ∷ mutations) making =
       sent-all next (λ key. value_by key (now key) mutation) mutations
-      (λ key users. making-part log base durable newest version key later (has key users) (λ m v. inside m key v users) window (now key) mutation (making key users))
+      (λ key is. making-part log base durable newest version key later (has key is) (λ m v. inside m key v is) window (now key) mutation (making key is))
       ∙ ap (λ l. l ++ map (λ m. (version, m)) rest) (sent-part window now mutation making)
       ∙ append_assoc window.mutations (map (λ m. (version, m)) first) (map (λ m. (version, m)) rest)
       ∙ ap (λ l. window.mutations ++ l) (sym (map-append (λ m. (version, m)) first rest))
@@ -162,61 +149,32 @@ module _ (log : List Batch) (base : Pairs) (durable newest version : ℕ) (later
       next = stored_parts base all_served window mutation
 
       first : List Mutation
-      first = flat_map (sent_to now mutation) all_served
+      first = sent_to users now mutation
 
       rest : List Mutation
-      rest = sent_of all_served (λ key. value_by key (now key) mutation) mutations
+      rest = sent_of users (λ key. value_by key (now key) mutation) mutations
 
--- ---- the batches between
+-- ---- a batch over pieces that are all served
 
--- those of a batch that comes next are what it sends over the newest version
-pub sent-next : (log : List Batch) (above newest : ℕ) (batch : Batch) → IsNext log newest batch → above ≤ newest
-    → sent_between log all_served above batch.version ≡ sent_between log all_served above newest ++ map (λ m. (batch.version, m)) (sent_of all_served (value_of log newest) batch.mutations)
-sent-next log above newest batch next le =
-    ap (flat_map (sent_in log all_served)) (between-next log above newest batch next le)
-    ∙ flat_map-append (sent_in log all_served) (batches_between log above newest) (batch ∷ [])
-    ∙ ap (λ l. sent_between log all_served above newest ++ l)
-    (append-nil (sent_in log all_served batch) ∙ ap (λ before. map (λ m. (batch.version, m)) (sent_of all_served before batch.mutations)) same)
+-- a batch that moves nothing sends its own mutations alone
+pub sent-batch : (given : Given) (state : State) (batch : Batch) → state.pieces ≡ all_served → batch.moves ≡ [] → IsNext given.log state.newest batch
+    → sent_by given state batch ≡ sent_of users (value_of given.log state.newest) batch.mutations
+sent-batch given state batch served still next =
+    (λ i. let moved = fold (move_piece batch.version) (served i) (still i) in
+    dropped (assigned given.own given.log state.newest) (still i)
+    ++ flat_map (held_of given.log state.newest) moved
+    ++ sent_in given.log (sent_spans (map (inject batch.version) moved)) batch)
+    ∙ ap (λ before. sent_of users before batch.mutations) same
   where
-    same : value_of log (batch.version - 1) ≡ value_of log newest
-    same = λ i key. value-between log newest batch key next (batch.version - 1) (let lt = next.above in omega arith) (let lt = next.above in omega arith) i
+    same : value_of given.log (batch.version - 1) ≡ value_of given.log state.newest
+    same = λ i key. value-between given.log state.newest batch key next (batch.version - 1) (let lt = next.above in omega arith) (let lt = next.above in omega arith) i
 
-module _ (log : List Batch) (p : ℕ → Bool) where
-  of-batch : (version : ℕ) (t : Bool) → p version ≡ t → (mutations : List Mutation) → filter (λ (made : ℕ × Mutation). p made.0) (map (λ m. (version, m)) mutations) ≡ cond t (map (λ m. (version, m)) mutations) []
-  of-batch version true is [] = refl
-  of-batch version false is [] = refl
-  of-batch version true is (mutation ∷ mutations) =
-      ap (λ t. cond t ((version, mutation) ∷ rest) rest) is ∙ ap (λ l. (version, mutation) ∷ l) (of-batch version true is mutations)
-    where
-      rest : List (ℕ × Mutation)
-      rest = filter (λ (made : ℕ × Mutation). p made.0) (map (λ m. (version, m)) mutations)
-  of-batch version false is (mutation ∷ mutations) =
-      ap (λ t. cond t ((version, mutation) ∷ rest) rest) is ∙ of-batch version false is mutations
-    where
-      rest : List (ℕ × Mutation)
-      rest = filter (λ (made : ℕ × Mutation). p made.0) (map (λ m. (version, m)) mutations)
-
-  -- of what some batches send, that of the versions that pass a test is what those batches send
-  sent-passing : (batches : List Batch) → filter (λ (made : ℕ × Mutation). p made.0) (flat_map (sent_in log all_served) batches) ≡ flat_map (sent_in log all_served) (filter (λ b. p b.version) batches)
-  sent-passing [] = refl
-  sent-passing (batch ∷ batches) =
-      filter-append (λ (made : ℕ × Mutation). p made.0) (sent_in log all_served batch) (flat_map (sent_in log all_served) batches)
-      ∙ (λ i. filter (λ (made : ℕ × Mutation). p made.0) (sent_in log all_served batch) ++ sent-passing batches i)
-      ∙ by_test (p batch.version) refl
-    where
-      rest : List (ℕ × Mutation)
-      rest = flat_map (sent_in log all_served) (filter (λ b. p b.version) batches)
-
-      by_test : (t : Bool) → p batch.version ≡ t → filter (λ (made : ℕ × Mutation). p made.0) (sent_in log all_served batch) ++ rest ≡ flat_map (sent_in log all_served) (cond t (batch ∷ filter (λ b. p b.version) batches) (filter (λ b. p b.version) batches))
-      by_test true is = ap (λ l. l ++ rest) (of-batch batch.version true is (sent_of all_served (value_of log (batch.version - 1)) batch.mutations))
-      by_test false is = ap (λ l. l ++ rest) (of-batch batch.version false is (sent_of all_served (value_of log (batch.version - 1)) batch.mutations))
-
-pub sent-above : (log : List Batch) (above version newest : ℕ) → above ≤ version
-    → filter (λ made. nat_lt version made.0) (sent_between log all_served above newest) ≡ sent_between log all_served version newest
-sent-above log above version newest le =
-    sent-passing log (nat_lt version) (batches_between log above newest) ∙ ap (flat_map (sent_in log all_served)) (between-above log above version newest le)
-
-pub sent-to : (log : List Batch) (above version newest : ℕ) → version ≤ newest
-    → filter (λ made. nat_le made.0 version) (sent_between log all_served above newest) ≡ sent_between log all_served above version
-sent-to log above version newest le =
-    sent-passing log (λ v. nat_le v version) (batches_between log above newest) ∙ ap (flat_map (sent_in log all_served)) (between-to log above version newest le)
+-- what is sent of a version passes a test that the version passes
+pub passes-dated : (p : ℕ → Bool) (version : ℕ) → p version ≡ true → (mutations : List Mutation)
+    → filter (λ (made : ℕ × Mutation). p made.0) (map (λ m. (version, m)) mutations) ≡ map (λ m. (version, m)) mutations
+passes-dated p version is [] = refl
+passes-dated p version is (mutation ∷ mutations) =
+    ap (λ t. cond t ((version, mutation) ∷ rest) rest) is ∙ ap (λ l. (version, mutation) ∷ l) (passes-dated p version is mutations)
+  where
+    rest : List (ℕ × Mutation)
+    rest = filter (λ (made : ℕ × Mutation). p made.0) (map (λ m. (version, m)) mutations)

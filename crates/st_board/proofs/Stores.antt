@@ -14,10 +14,10 @@ use Rattle.st_versioned.specs.Window.{Versions, changed}
 use Rattle.st_versioned.specs.declared.change.Change.TheVariants as change
 use Rattle.st_versioned.specs.declared.change.Dated.{Dated}
 use Rattle.st_versioned.specs.declared.window.Kept.{Kept}
-use Rattle.st_board.specs.Storing.{making_root, stored_as, stored_in, stored_parts, all_stored, with_stored}
+use Rattle.st_board.specs.Storing.{making_root, stored_in, stored_parts, all_stored, with_stored}
 use Rattle.st_board.specs.Stands.{all_served}
 use Rattle.st_board.specs.Tells.{MakesTo}
-use Rattle.st_board.specs.Values.{value_of}
+use Rattle.st_course.specs.Sent.{stored_as, value_of}
 use Rattle.st_board.proofs.Effects.{decided-more, makes-clear, makes-set, stored-effect, stored_value}
 use Rattle.st_board.proofs.Telling.{makes-value}
 

@@ -2,7 +2,8 @@
 use Rattle.std.proofs.Common.{◌≡◌, ◌∙◌, ◌≤◌, ◌<◌, ◌⊎◌, inl, inr, ℕ, suc, Bool, true, false, cond, nat_le, nat_lt, leb-true, leb-false, List, Option, Some, None, unwrap_or, refl, sym, ap, arith}
 use Rattle.st_mutation.specs.declared.batch.Batch.{Batch}
 use Rattle.st_versioned.specs.Root.{Decision, decision_above, told}
-use Rattle.st_board.specs.Values.{Has, value_of}
+use Rattle.st_course.specs.Sent.{value_of}
+use Rattle.st_board.specs.Values.{Has}
 use Rattle.st_board.specs.Tells.{MakesTo, TellsTo}
 
 module _ (log : List Batch) (key : List ℕ) where

@@ -3,10 +3,17 @@ use Rattle.std.proofs.Common.{◌≡◌, ◌∙◌, ◌++◌, ◌&&◌, ◌||◌
 use Rattle.std.specs.List.{list_any}
 use Rattle.std.proofs.lemmas.Bool.{false≢true}
 use Rattle.std.proofs.lemmas.Option.{same_Some}
+use Rattle.st_course.specs.Course.{Course, behind, course_of}
 use Rattle.st_fold.specs.declared.report.Event.{Event}
 use Rattle.st_fold.specs.declared.report.Event.TheVariants.{Opened, Applied, FetchStart, Block, Split, Began, Durable, Watched, Unwatched, Closed, Killed}
 use Rattle.st_model.specs.State.{Given, Opening, State, first_state, step}
 use Rattle.st_model.specs.Trace.{is_end, run_events, state_after}
+
+-- the law of a course with one event more
+abbrev pub CourseGoesOn : Type 0
+CourseGoesOn = (given : Given) (opening : Opening) (fresh : Bool) (trace : List Event) (state next : State) (event : Event) (course : Course)
+    → state_after given opening trace ≡ Some state → course_of given opening fresh trace ≡ Some course → step given state event ≡ Some next
+    → course_of given opening fresh (trace ++ event ∷ []) ≡ Some (behind given course event next)
 
 pub or_false : (a b : Bool) → (a || b) ≡ false → (a ≡ false) × (b ≡ false)
 or_false true b is = absurd (false≢true (sym is))

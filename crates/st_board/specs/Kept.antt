@@ -8,7 +8,7 @@ use Rattle.st_mutation.specs.declared.batch.Mutation.{Mutation}
 use Rattle.st_versioned.specs.Root.{Pairs, decided, value_at}
 use Rattle.st_versioned.specs.Window.{Stands, Versions, mutations_to, root_of}
 use Rattle.st_board.specs.Tells.{TellsTo}
-use Rattle.st_board.specs.Values.{value_of}
+use Rattle.st_course.specs.Sent.{value_of}
 
 -- a key of users
 abbrev pub IsUsers : List ℕ → Type 0

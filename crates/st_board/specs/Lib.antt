@@ -1,4 +1,7 @@
-pub mod Jobs
+pub use Rattle.st_course.specs.Course
+pub use Rattle.st_course.specs.Jobs
+pub use Rattle.st_course.specs.Sent
+pub mod Base
 pub mod Kept
 pub mod Logs
 pub mod Making

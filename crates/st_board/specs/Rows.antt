@@ -6,7 +6,7 @@ use Rattle.st_key.specs.Spans.{all_keys}
 use Rattle.st_model.specs.State.{Given, Opening}
 use Rattle.st_mutation.specs.declared.batch.Batch.{Batch}
 use Rattle.st_mutation.specs.declared.batch.Mutation.TheVariants.{Set}
-use Rattle.st_board.specs.Jobs.{Store}
+use Rattle.st_board.specs.Base.{Store}
 
 -- a batch of version 1 that sets a to 1, and one of version 2 that changes nothing
 pub record IsRow (first second : Batch) : Type 0 where

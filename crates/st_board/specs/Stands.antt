@@ -1,5 +1,5 @@
 -- What a board stands for, where it serves all keys and its log moves nothing.
-use Rattle.std.specs.Prelude.{◌≡◌, ℕ, ◌≤◌, ◌<◌, false, List, [], ◌∷◌, map, Option, Some, None, IfSome}
+use Rattle.std.specs.Prelude.{◌≡◌, ℕ, ◌≤◌, ◌<◌, nat_lt, false, List, [], ◌∷◌, filter, map, Option, Some, None, IsSomeAnd}
 use Rattle.std.specs.List.{AllByRecursion, list_any}
 use Rattle.std.specs.Option.{ForSome, option_map}
 use Rattle.st_fold.specs.Map.{Map}
@@ -15,11 +15,12 @@ use Rattle.st_model.specs.Trace.{is_end, state_after}
 use Rattle.st_model.specs.declared.piece.Piece.{Piece}
 use Rattle.st_versioned.specs.Root.{over, value_at}
 use Rattle.st_versioned.specs.Window.{Versions, root_of}
-pub use Rattle.st_board.specs.Jobs.{all_served}
-use Rattle.st_board.specs.Jobs.{Among, Store, batches_between, clears_left, durable_ops, job_of, sent_between, value_behind}
+pub use Rattle.st_board.specs.Base.{all_served}
+use Rattle.st_course.specs.Course.{Course, course_of, job_after, made_after}
+use Rattle.st_course.specs.Sent.{batches_between, value_of}
+use Rattle.st_board.specs.Base.{Among, IsWrite, Store, value_behind}
 use Rattle.st_board.specs.Kept.{IsUsers, KeepsVersions}
 use Rattle.st_board.specs.Logs.{HasShortKey}
-use Rattle.st_board.specs.Values.{value_of}
 
 -- A board as its callers see it: the trace that it stores, the state that its own numbers and pieces are, and the base.
 pub record Standing : Type 0 where
@@ -72,7 +73,21 @@ pub record IsFlight (given : Given) (state : State) (flight : Opening) : Type 0 
 -- the base has the pairs of the opening's store, changed by the jobs of the durable commits
 abbrev pub IsCommitted : Given → Opening → Store → Standing → Type 0
 IsCommitted given opening store board =
-    (key : List ℕ) → IsUsers key → value_at board.base key ≡ value_behind key (value_at store.pairs key) (durable_ops given opening store board.trace)
+    (key : List ℕ) → IsUsers key → value_at board.base key ≡ value_behind key (value_at store.pairs key) (made_after given opening store.fresh board.trace)
+
+-- what a board keeps of its course
+pub record Follows (given : Given) (store : Store) (board : Standing) (course : Course) : Type 0 where
+  pub state : course.state ≡ board.state
+  -- all keys are available
+  pub clears : course.clears ≡ []
+  -- the window has what was sent above the durable version
+  pub sent : board.window.mutations ≡ filter (λ made. nat_lt board.state.durable made.0) course.sent
+  pub writes : AllByRecursion (λ made. IsWrite made.1) board.window.mutations
+  -- the job in flight leads from the base to its version
+  pub flown : option_map (λ job. job.version) course.job ≡ option_map (λ flight. flight.version) board.state.flight
+  pub leads : ForSome course.job (λ job. (key : List ℕ) → IsUsers key → value_behind key (value_at board.base key) job.ops ≡ value_of given.log job.version key)
+  -- and the durable ones led to the base
+  pub committed : (key : List ℕ) → IsUsers key → value_at board.base key ≡ value_behind key (value_at store.pairs key) course.made
 
 -- what a board keeps of itself
 pub record Keeps (given : Given) (opening : Opening) (store : Store) (board : Standing) : Type 0 where
@@ -87,9 +102,9 @@ pub record Keeps (given : Given) (opening : Opening) (store : Store) (board : St
   -- the window has a root of each batch above the durable version, and of that version
   pub roots : map (λ kept. kept.version) board.window.roots
       ≡ board.state.durable ∷ map (λ batch. batch.version) (batches_between given.log board.state.durable board.state.newest)
-  -- its mutations are what was sent of these batches
-  pub sent : board.window.mutations ≡ sent_between given.log all_served board.state.durable board.state.newest
-  pub committed : IsCommitted given opening store board
+  pub course : Course
+  pub is_course : course_of given opening store.fresh board.trace ≡ Some course
+  pub follows : Follows given store board course
 
 -- the board stands for its log and its trace
 pub record StandsFor (given : Given) (opening : Opening) (store : Store) (board : Standing) : Type 0 where
@@ -98,13 +113,13 @@ pub record StandsFor (given : Given) (opening : Opening) (store : Store) (board 
   pub going_on : list_any is_end board.trace ≡ false
   -- the map of each version that can be read is that of the log
   pub versions : (version : ℕ) (key : List ℕ) → board.state.oldest ≤ version → version ≤ board.state.newest → IsUsers key
-      → IfSome (root_of board.window version) (λ root. over root board.base key ≡ value_of given.log version key)
+      → IsSomeAnd (root_of board.window version) (λ root. over root board.base key ≡ value_of given.log version key)
   -- the base is that of the durable version
   pub base_is : (key : List ℕ) → IsUsers key → value_at board.base key ≡ value_of given.log board.state.durable key
   -- the changes that are kept are above it
   pub above : AllByRecursion (λ made. board.state.durable < made.0) board.window.mutations
   -- behind the job in flight the base is that of the job's version
-  pub flight : ForSome (job_of given (clears_left opening store board.trace) board.state)
+  pub flight : ForSome (job_after given opening store.fresh board.trace)
       (λ job. (key : List ℕ) → IsUsers key → value_behind key (value_at board.base key) job.ops ≡ value_of given.log job.version key)
   -- the base has the pairs of the opening's store, changed by the jobs of the durable commits
   pub committed : IsCommitted given opening store board

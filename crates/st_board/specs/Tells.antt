@@ -2,7 +2,8 @@
 use Rattle.std.specs.Prelude.{◌≡◌, ◌⊎◌, ℕ, ◌≤◌, List, Option, Some, None}
 use Rattle.st_mutation.specs.declared.batch.Batch.{Batch}
 use Rattle.st_versioned.specs.Root.{Decision}
-use Rattle.st_board.specs.Values.{Has, value_of}
+use Rattle.st_course.specs.Sent.{value_of}
+use Rattle.st_board.specs.Values.{Has}
 
 -- Up to a version, the key has the value that was decided, since it was. Where nothing is decided, it has the value that it
 -- had at the durable version.

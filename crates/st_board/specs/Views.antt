@@ -6,7 +6,7 @@ use Rattle.st_mutation.specs.declared.batch.Batch.{Batch}
 use Rattle.st_ptree.specs.Entries.{pairs_of}
 use Rattle.st_shards.specs.Unserved.{first_unserved}
 use Rattle.st_versioned.specs.Root.{over}
-use Rattle.st_board.specs.Values.{value_of}
+use Rattle.st_course.specs.Sent.{value_of}
 use Rattle.st_board.specs.declared.refusal.ViewRefusal.{ViewRefusal}
 use Rattle.st_board.specs.declared.refusal.ViewRefusal.TheVariants as why
 use Rattle.st_board.specs.declared.view.View.{View}

@@ -7,6 +7,7 @@ use crate::committing::{has_rows, ops_of};
 use crate::versions::put_next;
 use crate::{ApplyRefusal, CommitJob, Opening, Story, View, ViewRefusal};
 use bytes::Bytes;
+use st_course::course_goes_on;
 use st_fold::{Ending, Event, Settings};
 use st_gate::{Judged, judge};
 use st_key::Range;
@@ -45,7 +46,7 @@ impl<N: Story> Model for Board<N> {
     ghost use Rattle.std.specs.Option.{ForSome};
     ghost use Rattle.st_model.specs.State.{assigned};
     ghost use Rattle.st_ptree.specs.Entries.{pairs_of};
-    ghost use Rattle.st_board.specs.Jobs.{clears_left};
+    ghost use Rattle.st_course.specs.Course.{clears_after};
     ghost use Rattle.st_board.specs.Stands.{Keeps, Standing, board_of, still_to_come};
 
     ghost Value = { Standing };
@@ -57,18 +58,20 @@ impl<N: Story> Model for Board<N> {
         × (b.settings ≡ N.given.settings)
         × (b.durable.assigned ≡ assigned N.given.own N.given.log b.durable.version)
         × ForSome b.flight (λ next. next.assigned ≡ assigned N.given.own N.given.log next.version)
-        × (b.clears.items ≡ clears_left N.opening N.store b.trace.items)
+        × (b.clears.items ≡ clears_after N.given N.opening N.store.fresh b.trace.items)
         × (vec_len b.trace + still_to_come b.flight ≤ vec_capacity b.trace) };
 }
 
 impl<N: Story> Board<N> {
     ghost use Rattle.std.specs.Prelude.{◌↔◌, ◌⊎◌, IsErrOf};
     ghost use Rattle.std.specs.Option.{ForSome};
-    ghost use Rattle.st_board.specs.Jobs.{AreChanges, clears_left, clears_of, job_of, meta_of, value_behind};
+    ghost use Rattle.st_board.specs.Base.{AreChanges, value_behind};
+    ghost use Rattle.st_course.specs.Course.{job_after};
+    ghost use Rattle.st_course.specs.Jobs.{clears_of, meta_of};
     ghost use Rattle.st_meta.specs.Stored.{IsState};
     ghost use Rattle.st_board.specs.Kept.{IsUsers};
     ghost use Rattle.st_board.specs.Stands.{IsStill, StandsFor, last_event};
-    ghost use Rattle.st_board.specs.Values.{value_of};
+    ghost use Rattle.st_course.specs.Sent.{value_of};
     ghost use Rattle.st_board.specs.Views.{IsViewed};
     ghost use Rattle.st_versioned.specs.Root.{over, value_at};
     ghost use Rattle.st_board.specs.declared.refusal.ApplyRefusal.TheVariants as apply;
@@ -151,7 +154,8 @@ impl<N: Story> Board<N> {
                 root,
                 base: self.base.share()?,
             }),
-            None => Err(AllocError),
+            // a root stands for each version that can be read
+            None => unreachable!(),
         }
     }
 
@@ -243,6 +247,7 @@ impl<N: Story> Board<N> {
         ensures base { self.new.base ≡ self.old.base }
         ensures err { OnErr result (self.new ≡ self.old) }
     {
+        course_goes_on();
         decisions_above_stay();
         clip_is_the_part_inside();
         self.trace.reserve(3)?;
@@ -282,7 +287,7 @@ impl<N: Story> Board<N> {
         ensures due { IfOk result (λ taken. is_some taken ≡ commit_due N.given self.old.state) }
         ensures began { IfOk result (λ taken. IfSome taken (λ job. self.new.trace ≡ self.old.trace ++ event.Began job.version ∷ [])) }
         ensures state { IfOk result (λ taken. IfSome taken (λ job. self.new.state ≡ began N.given self.old.state job.version)) }
-        ensures job { IfOk result (λ taken. IfSome taken (λ job. job_of N.given (clears_left N.opening N.store self.new.trace) self.new.state ≡ Some job)) }
+        ensures job { IfOk result (λ taken. IfSome taken (λ job. job_after N.given N.opening N.store.fresh self.new.trace ≡ Some job)) }
         ensures changes { IfOk result (λ taken. IfSome taken (λ job. AreChanges job.ops)) }
         ensures stored { IfOk result (λ taken. IfSome taken (λ job. ForSome self.new.state.flight (λ flight. IsState (meta_of N.given flight)))) }
         ensures base { self.new.base ≡ self.old.base }
@@ -299,12 +304,13 @@ impl<N: Story> Board<N> {
         requires { IsTrue (commit_due N.given self.old.state) }
         ensures began { IfOk result (λ job. self.new.trace ≡ self.old.trace ++ event.Began job.version ∷ []) }
         ensures state { IfOk result (λ job. self.new.state ≡ began N.given self.old.state job.version) }
-        ensures job { IfOk result (λ job. job_of N.given (clears_left N.opening N.store self.new.trace) self.new.state ≡ Some job) }
+        ensures job { IfOk result (λ job. job_after N.given N.opening N.store.fresh self.new.trace ≡ Some job) }
         ensures changes { IfOk result (λ job. AreChanges job.ops) }
         ensures stored { IfOk result (λ job. ForSome self.new.state.flight (λ flight. IsState (meta_of N.given flight))) }
         ensures base { self.new.base ≡ self.old.base }
         ensures err { OnErr result (self.new ≡ self.old) }
     {
+        course_goes_on();
         let version = self.commit_version();
         let next = Meta {
             version,
@@ -327,14 +333,16 @@ impl<N: Story> Board<N> {
     /// The commit of a job is durable, and this is the base that its operations made: the versions below its own are forgotten.
     /// It takes no memory.
     pub fn committed(&mut self, job: CommitJob, base: PTree<Bytes>)
-        requires job { job_of N.given (clears_left N.opening N.store self.old.trace) self.old.state ≡ Some job }
+        requires job { job_after N.given N.opening N.store.fresh self.old.trace ≡ Some job }
         requires base { (key : List ℕ) → IsUsers key → value_at (pairs_of base) key ≡ value_behind key (value_at self.old.base key) job.ops }
         ensures trace { self.new.trace ≡ self.old.trace ++ event.Durable job.version ∷ [] }
         ensures state { end_commit self.old.state job.version self.old.state.flight ≡ Some self.new.state }
         ensures base { self.new.base ≡ pairs_of base }
     {
+        course_goes_on();
+        // the job's commit is in flight
         let Some(next) = self.flight.take() else {
-            return;
+            unreachable!()
         };
         self.window.forget_before(job.version);
         self.shards.settle(job.version);

@@ -2,7 +2,8 @@
 ghost use Rattle.std.specs.Prelude.{◌≡◌, ◌++◌, ◌∷◌, [], map, IfOk, OnOk, IsTrue};
 ghost use Rattle.std.specs.List.{flat_map};
 ghost use Rattle.std.specs.Option.{option_map_or};
-ghost use Rattle.st_board.specs.Jobs.{AreChanges, clear_of, op_of};
+ghost use Rattle.st_board.specs.Base.{AreChanges};
+ghost use Rattle.st_course.specs.Jobs.{clear_of, op_of};
 ghost use Rattle.st_ops.specs.Grammar.{Fits, is_change};
 ghost use Rattle.st_meta.specs.Stored.{sets_of, stored};
 ghost use Rattle.st_model.specs.Pieces.{has_rows};

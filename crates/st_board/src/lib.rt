@@ -3,7 +3,6 @@
 
 mod board;
 mod committing;
-mod job;
 mod opening;
 mod refusal;
 mod storing;
@@ -14,8 +13,8 @@ mod versions;
 mod view;
 
 pub use board::Board;
-pub use job::CommitJob;
 pub use opening::Opening;
 pub use refusal::{ApplyRefusal, ViewRefusal};
+pub use st_course::CommitJob;
 pub use story::Story;
 pub use view::View;

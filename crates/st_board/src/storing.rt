@@ -3,7 +3,8 @@ ghost use Rattle.std.specs.Prelude.{◌≡◌, ◌≤◌, ◌<◌, ◌∷◌, []
 ghost use Rattle.std.specs.Option.{option_map, option_copied};
 ghost use Rattle.st_atomic.specs.Atomic.{changed};
 ghost use Rattle.st_board.specs.Logs.{HasShortKey};
-ghost use Rattle.st_board.specs.Storing.{all_stored, is_sent, making_root, result_as, stored_in, stored_part, stored_parts, with_stored};
+ghost use Rattle.st_board.specs.Storing.{all_stored, making_root, stored_in, stored_part, stored_parts, with_stored};
+ghost use Rattle.st_course.specs.Sent.{is_sent, result_as};
 ghost use Rattle.st_fold.specs.Reading.{span_of_key};
 ghost use Rattle.st_model.specs.Pieces.{span_of};
 ghost use Rattle.st_mutation.specs.declared.batch.Mutation.TheVariants as mutation;
@@ -35,7 +36,7 @@ fn value_now<L: Ledger>(
     ensures { IfOk result (λ value. value ≡ over (making_root window.now) (pairs_of base.now) key.now) }
 {
     let Some(root) = window.making() else {
-        return Err(AllocError);
+        unreachable!()
     };
     match (Overlay { root, base }).get(key.bytes(), steps) {
         Some(bytes) => match Value::read(alloc, bytes) {

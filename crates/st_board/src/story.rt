@@ -5,7 +5,7 @@ use std::marker::Brand;
 /// memory.
 pub trait Story {
     ghost use Rattle.st_model.specs.State.{Given, Opening};
-    ghost use Rattle.st_board.specs.Jobs.{Store};
+    ghost use Rattle.st_board.specs.Base.{Store};
 
     ghost given: { Given };
 

@@ -1,5 +1,6 @@
 use Rattle.std.proofs.Common.{◌≡◌, map, take}
-use Rattle.st_board.specs.Jobs.{AreChanges, clear_of}
+use Rattle.st_course.specs.Jobs.{clear_of}
+use Rattle.st_board.specs.Base.{AreChanges}
 use Rattle.st_board.proofs.committing.clears.Given as goal
 
 -- the ranges so far

@@ -1,6 +1,7 @@
 use Rattle.std.proofs.Common.{◌≡◌, ◌++◌, take}
 use Rattle.std.specs.List.{flat_map}
-use Rattle.st_board.specs.Jobs.{AreChanges, op_of}
+use Rattle.st_course.specs.Jobs.{op_of}
+use Rattle.st_board.specs.Base.{AreChanges}
 use Rattle.st_board.proofs.committing.push_ops.Given as goal
 
 -- the mutations so far

@@ -1,6 +1,7 @@
 use Rattle.st_ptree.specs.Entries.{pairs_of}
 use Rattle.st_versioned.specs.Root.{over}
-use Rattle.st_board.specs.Storing.{making_root, stored_as}
+use Rattle.st_board.specs.Storing.{making_root}
+use Rattle.st_course.specs.Sent.{stored_as}
 use Rattle.st_board.proofs.Going.{goes-stored}
 use Rattle.st_board.proofs.storing.store.Goals as goal
 

@@ -3,11 +3,10 @@ use Rattle.st_fold.specs.declared.report.Event.TheVariants.{Applied}
 use Rattle.st_model.specs.State.{after_batch, next_batch}
 use Rattle.st_ptree.specs.Entries.{pairs_of}
 use Rattle.st_versioned.specs.Window.{begun, sealed}
-use Rattle.st_board.specs.Jobs.{clears_left}
+use Rattle.st_course.specs.Course.{clears_after}
 use Rattle.st_board.specs.Stands.{Standing}
 use Rattle.st_board.specs.Storing.{all_stored}
-use Rattle.st_board.proofs.Applying.{is_after, keeps-applied, short-keys}
-use Rattle.st_board.proofs.Jobs.{left-more}
+use Rattle.st_board.proofs.Applying.{clears-applied, is_after, keeps-applied, short-keys}
 use Rattle.st_board.proofs.Room.{at-most-two}
 use Rattle.st_board.proofs.board.Board.apply_next.Goals as goal
 
@@ -26,7 +25,7 @@ pub invariant_of-self-2 : goal.invariant_of-self-2
 invariant_of-self-2 g c = (
   keeps-applied g.N.Story.given g.N.Story.opening g.N.Story.store _ c.self.invariant.0 c.args.batch.now
       (subst (λ (b : Standing). next_batch g.N.Story.given b.state ≡ Some c.args.batch.now) (sym c.self.view_is) c.requires.next)
-      c.decisions_above_stay.ensures c.clip_is_the_part_inside.ensures.inside
+      c.course_goes_on.ensures.behind c.decisions_above_stay.ensures c.clip_is_the_part_inside.ensures.inside
       c.put_next.new.window
       (c.in_ok-put_next.ensures.ok ∙ ap (λ pieces. sealed (all_stored (pairs_of c.self.inside.base) pieces (begun c.args.batch.now.version c.self.inside.window) c.args.batch.now.mutations)) c.pieces.ensures.value)
       c.put_next.ensures.stands
@@ -36,8 +35,10 @@ invariant_of-self-2 g c = (
   c.self.invariant.2,
   c.self.invariant.3,
   c.self.invariant.4
-      ∙ sym (ap (clears_left g.N.Story.opening g.N.Story.store) applied
-      ∙ left-more g.N.Story.opening g.N.Story.store c.self.inside.trace.items (Applied c.args.batch.now.version)),
+      ∙ sym (ap (clears_after g.N.Story.given g.N.Story.opening g.N.Story.store.fresh) applied
+      ∙ clears-applied g.N.Story.given g.N.Story.opening g.N.Story.store _ c.self.invariant.0 c.args.batch.now
+      (subst (λ (b : Standing). next_batch g.N.Story.given b.state ≡ Some c.args.batch.now) (sym c.self.view_is) c.requires.next)
+      c.course_goes_on.ensures.behind),
   (let few = at-most-two c.self.inside.flight in omega (arith, c.in_ok-reserve.ensures.ok, c.reserve.ensures.len, c.push_reserved.ensures.len, c.push_reserved.ensures.capacity)),
 )
   where

@@ -4,7 +4,8 @@ use Rattle.st_meta.specs.declared.state.Meta.{Meta}
 use Rattle.st_model.specs.Pieces.{first_pieces}
 use Rattle.st_model.specs.State.{Opening}
 use Rattle.st_ptree.specs.Entries.{pairs_of}
-use Rattle.st_board.specs.Jobs.{clears_left, clears_of}
+use Rattle.st_course.specs.Course.{clears_after}
+use Rattle.st_course.specs.Jobs.{clears_of}
 use Rattle.st_board.specs.Stands.{IsStill, Keeps, board_of}
 use Rattle.st_board.proofs.Beginning.{keeps-first}
 use Rattle.st_board.proofs.board.Board.begin.Goals as goal
@@ -27,6 +28,6 @@ invariant_of-result g c =
       (λ next is. absurd (cc (is))),
       c.requires.clears
           ∙ ap (λ (opening : Opening). clears_of store.fresh opening.available) (sym c.requires.named)
-          ∙ ap (clears_left g.N.Story.opening store) (sym opened),
+          ∙ ap (clears_after given g.N.Story.opening store.fresh) (sym opened),
       omega (arith, c.in_ok-reserve.ensures.ok, c.reserve.ensures.len, c.push_reserved.ensures.len, c.push_reserved.ensures.capacity),
     )

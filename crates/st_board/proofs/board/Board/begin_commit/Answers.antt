@@ -5,11 +5,10 @@ use Rattle.st_meta.specs.Stored.{IsState}
 use Rattle.st_meta.specs.declared.state.Meta.{Meta}
 use Rattle.st_model.specs.State.{Opening, State, assigned, began, commit_due, commit_version}
 use Rattle.st_ptree.specs.Entries.{pairs_of}
-use Rattle.st_board.specs.Jobs.{clears_left, job_of, meta_of}
+use Rattle.st_course.specs.Jobs.{meta_of}
 use Rattle.st_board.specs.Stands.{Keeps, Standing, board_of}
 use Rattle.st_board.proofs.Beginning.{all-assigned}
-use Rattle.st_board.proofs.Commits.{begun-of, is_begun, job-begun, keeps-began, state-stored}
-use Rattle.st_board.proofs.Jobs.{left-more}
+use Rattle.st_board.proofs.Commits.{begun-of, clears-began, clears-kept, is_begun, job-begun, keeps-began, state-stored}
 use Rattle.st_board.proofs.board.Board.begin_commit.Goals as goal
 
 pub invariant_of-self-2 : goal.invariant_of-self-2
@@ -28,12 +27,12 @@ invariant_of-self-2 g c =
     let next : Meta = record { version = version; assigned = c.in_ok-clone.field-0; available = c.in_ok-clone-2.field-0 } in (
       subst (λ (s : State). Keeps given opening store (record { trace = c.push_reserved.new.self.items; state = s; window = c.self.inside.window; base = pairs_of c.self.inside.base }))
           (begun-of given opening store board keeps version c.in_ok-clone-2.field-0 c.take.new.self version_is c.in_ok-clone-2.ensures.cases c.in-Ok.ensures.ok)
-          (keeps-began given opening store board keeps due c.push_reserved.new.self.items (more ∙ ap (λ v. trace ++ event.Began v ∷ []) version_is)),
+          (keeps-began given opening store board keeps c.course_goes_on.ensures.behind due c.push_reserved.new.self.items (more ∙ ap (λ v. trace ++ event.Began v ∷ []) version_is)),
       c.self.invariant.1,
       c.self.invariant.2,
       (λ other is. subst (λ (m : Meta). m.assigned ≡ assigned given.own given.log m.version) (same_Some next other is)
           (c.in_ok-clone.ensures.cases ∙ c.self.invariant.2 ∙ all-assigned given opening keeps.still c.self.inside.durable.version ∙ sym (all-assigned given opening keeps.still version))),
-      c.self.invariant.4 ∙ sym (ap (clears_left opening store) more ∙ left-more opening store trace (event.Began version)),
+      c.self.invariant.4 ∙ sym (clears-began given opening store board keeps c.course_goes_on.ensures.behind due c.push_reserved.new.self.items (more ∙ ap (λ v. trace ++ event.Began v ∷ []) version_is)),
       omega (arith, c.in_ok-reserve.ensures.ok, c.reserve.ensures.len, c.push_reserved.ensures.len, c.push_reserved.ensures.capacity),
     )
 
@@ -60,12 +59,12 @@ returns-clause-job g c =
     let version = c.commit_version-version.result in
     let board : Standing = board_of trace c.self.inside.newest c.self.inside.durable c.self.inside.flight c.self.inside.shards c.self.inside.window (pairs_of c.self.inside.base) in
     let version_is : version ≡ commit_version given board.state = c.commit_version-version.ensures ∙ ap (λ (b : Standing). commit_version given b.state) (sym c.self.view_is) in
+    let due : commit_due given board.state ≡ true = ap (λ (b : Standing). commit_due given b.state) c.self.view_is ∙ c.requires in
     let more : c.push_reserved.new.self.items ≡ trace ++ event.Began (commit_version given board.state) ∷ [] =
     c.push_reserved.ensures.items ∙ ap (λ items. items ++ event.Began version ∷ []) c.reserve.ensures.items ∙ ap (λ v. trace ++ event.Began v ∷ []) version_is in
     let next : Meta = record { version = version; assigned = c.in_ok-clone.field-0; available = c.in_ok-clone-2.field-0 } in
-    ap (job_of given (clears_left opening store c.push_reserved.new.self.items))
-    (sym (begun-of given opening store board keeps version c.in_ok-clone-2.field-0 c.take.new.self version_is c.in_ok-clone-2.ensures.cases c.in-Ok.ensures.ok))
-    ∙ job-begun given opening store board keeps c.as_slice.result.now next c.in_ok-ops.ops.items c.push_reserved.new.self.items more (c.as_slice.ensures.value ∙ c.self.invariant.4) version_is
+    job-begun given opening store board keeps c.course_goes_on.ensures.behind due c.push_reserved.new.self.items more
+    c.as_slice.result.now next c.in_ok-ops.ops.items (c.as_slice.ensures.value ∙ c.self.invariant.4 ∙ clears-kept given opening store board keeps) version_is
     (c.in_ok-clone.ensures.cases ∙ c.self.invariant.2 ∙ all-assigned given opening keeps.still c.self.inside.durable.version) c.in_ok-clone-2.ensures.cases c.in_ok-ops.ensures.ops
     ∙ (λ i. Some (record { version = sym version_is i; ops = sym c.from_vec.ensures i }))
 

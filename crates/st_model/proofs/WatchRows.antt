@@ -189,6 +189,30 @@ watch_beside_played : Plays (stage watch_beside watching_beside (fresh watch_bes
 unfolding readers_at_end
 watch_beside_played = plays (stage watch_beside watching_beside (fresh watch_beside) 10) 100 refl refl
 
+-- ---- at the end the readers poll in the order of their numbers, whatever that of their requests
+
+abbrev watching_in_turn : LifePlan
+watching_in_turn = record (life_to 0) { asks = watches 1 2 97 None ∷ watches 2 1 98 None ∷ [] }
+
+abbrev two_watchers : Script
+two_watchers = record { settings = settings; own = all_keys ∷ []; log = []; lives = watching_in_turn ∷ [] }
+
+abbrev stood_in_turn : List Event
+stood_in_turn = Opened 0 ∷ Watched 2 (key 98) None ∷ Unwatched 2 ∷ Watched 1 (key 97) None ∷ Unwatched 1 ∷ []
+
+abbrev both_stood : Life
+both_stood = life 0 stood_in_turn (answered 1 (3 ∷ 4 ∷ 4 ∷ []) Waiting ∷ answered 2 (1 ∷ 2 ∷ 2 ∷ []) Waiting ∷ []) ending.Closed
+
+two_watchers_demanded : IsDemanded two_watchers (fresh two_watchers) 0 None (begun watching_in_turn (all 0) both_stood ∷ [])
+two_watchers_demanded =
+    closes_alone two_watchers watching_in_turn stood_in_turn both_stood.answers refl
+    (closes (given_by two_watchers watching_in_turn) (all 0) watching_in_turn stood_in_turn both_stood.answers (refl, refl, (refl, refl, tt))
+    refl refl refl refl refl refl refl refl refl)
+
+two_watchers_played : Plays (stage two_watchers watching_in_turn (all 0) 10) both_stood
+unfolding readers_at_end
+two_watchers_played = plays (stage two_watchers watching_in_turn (all 0) 10) 100 refl refl
+
 -- ---- a watch that may be polled once alone
 
 abbrev watching_shortly : LifePlan
@@ -298,3 +322,10 @@ released_though_stopped : IsLife (given_by watch_dies watching_to_death) (all 0)
     (life 0 (Opened 0 ∷ Watched 1 (key 97) None ∷ Applied 1 ∷ Applied 2 ∷ Unwatched 1 ∷ Began 1 ∷ []) (answered 1 (1 ∷ []) Stopped ∷ [])
     ending.Killed) → ⊥
 released_though_stopped is_life = is_life.answered.1
+
+-- one that comes again once it was released
+watches_again : IsLife (given_by watch_fires watching) (all 0) watching
+    (life 0
+    (Opened 0 ∷ Applied 1 ∷ Watched 1 (key 97) (Some (key 65)) ∷ Applied 2 ∷ Applied 3 ∷ Unwatched 1 ∷ Watched 1 (key 97) (Some (key 65)) ∷ [])
+    fired.answers ending.Closed) → ⊥
+watches_again is_life = let e : false ≡ true = is_life.named in cc

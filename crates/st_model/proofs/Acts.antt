@@ -21,7 +21,7 @@ use Rattle.st_model.specs.State.{Given, Opening, State, Watch, after_batch, appl
 use Rattle.st_model.specs.Trace.{event_by, IsFetchOf, makes, state_after}
 use Rattle.st_model.proofs.Counts.{applied_is, began_is, by_trace, ended_is, next_is_above, only_if}
 use Rattle.st_model.proofs.Cuts.{Follow, begin_above, same_key}
-use Rattle.st_model.proofs.Lists.{all_append, all_map}
+use Rattle.st_model.proofs.Lists.{found_has, found_passes, all_append, all_map}
 
 -- ---- the first piece that passes a test
 
@@ -38,7 +38,7 @@ found_begins test other a b (q ∷ ps) p follow e passes =
           (cond-true (bytes_eq q.begin q.begin) (Some q) (find (λ piece. bytes_eq piece.begin q.begin) ps) ((bytes_eq-Decides q.begin q.begin).1 refl))
           ∙ ap other same ∙ passes)
       | false ↦ λ later.
-          let above = found_holds (λ r. key_less r.begin q.end ≡ false) ps p later (begin_above q.end b q.end ps follow.2 (less_irrefl q.end)) in
+          let above = found_has test (λ r. key_less r.begin q.end ≡ false) ps p later (begin_above q.end b q.end ps follow.2 (less_irrefl q.end)) in
           ap (λ o. option_map_or other o false)
           (cond-false (bytes_eq q.begin p.begin) (Some q) (find (λ piece. bytes_eq piece.begin p.begin) ps)
           (false_from_ne_true (bytes_eq q.begin p.begin) (λ same.
@@ -46,24 +46,6 @@ found_begins test other a b (q ∷ ps) p follow e passes =
           ∙ found_begins test other q.end b ps p follow.2 later passes
     ]
     e
-  where
-    found_holds : (P : Piece → Type 0) (ps : List Piece) (p : Piece) → find test ps ≡ Some p → AllByRecursion P ps → P p
-    found_holds P [] p e all = cc
-    found_holds P (q ∷ ps) p e all =
-        elim (test q) as (λ v. cond v (Some q) (find test ps) ≡ Some p → P p) [
-          | true ↦ λ first. let same : q ≡ p = cc in subst P same all.0
-          | false ↦ λ later. found_holds P ps p later all.1
-        ]
-        e
-
-pub found_passes : (test : Piece → Bool) (ps : List Piece) (p : Piece) → find test ps ≡ Some p → test p ≡ true
-found_passes test [] p e = cc
-found_passes test (q ∷ ps) p e =
-    elim (test q) as (λ v. test q ≡ v → cond v (Some q) (find test ps) ≡ Some p → test p ≡ true) [
-      | true ↦ λ passes first. let same : q ≡ p = cc in subst (λ r. test r ≡ true) same passes
-      | false ↦ λ _ later. found_passes test ps p later
-    ]
-    refl e
 
 -- where no piece passes the test, none that begins at a key passes one that is narrower
 none_begins : (test other : Piece → Bool) → ((p : Piece) → other p ≡ true → test p ≡ true) → (begin : List ℕ) (ps : List Piece)

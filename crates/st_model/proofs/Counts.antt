@@ -2,7 +2,7 @@
 use Rattle.std.proofs.Common.{◌≡◌, ℕ, ◌-◌, ◌<◌, ◌≤◌, Bool, true, false, ◌&&◌, ◌||◌, ◌==◌, nat_lt, nat_le, cond, List, [], ◌∷◌, ◌++◌, length, take, drop, Option, Some, None, is_none, option_and_then, IfSome, refl, sym, ap, subst, ◌∙◌, arith, length-append, le_refl, le_trans, suc}
 use Rattle.std.proofs.lemmas.List.{take-append-drop, take-append-le, length-take-le}
 use Rattle.std.proofs.lemmas.Bool.{eq-eqb, cond-true, cond-false, cond_both, and_parts, ltb-true, ltb-false, leb-true, le-leb, le-ltb, eqb-true}
-use Rattle.std.specs.List.{find, list_any}
+use Rattle.std.specs.List.{list_any}
 use Rattle.st_mutation.specs.declared.batch.Batch.{Batch}
 use Rattle.st_fold.specs.declared.report.Event.{Event}
 use Rattle.st_fold.specs.declared.report.Event.TheVariants.{Opened, Applied, FetchStart, Block, Split, Began, Durable, Watched, Unwatched, Closed, Killed}
@@ -12,6 +12,7 @@ use Rattle.st_model.specs.declared.piece.Piece.{Piece}
 use Rattle.st_model.specs.Pieces.{has_rows}
 use Rattle.st_model.specs.State.{Given, Opening, State, Watch, first_state, next_batch, apply_next, after_batch, begin_commit, began, end_commit, ended, greatest_to, commit_version, commit_due, step}
 use Rattle.st_model.specs.Trace.{is_end, run_events, state_after, state_at}
+use Rattle.st_model.proofs.Lists.{found_passes}
 use Rattle.st_model.proofs.Traces.{opens}
 
 -- what is answered only where a test passes
@@ -79,18 +80,9 @@ parted given state (event ∷ events) more last run =
 
 -- ---- the numbers
 
-find_passes : {A : Type 0} (test : A → Bool) (xs : List A) (x : A) → find test xs ≡ Some x → test x ≡ true
-find_passes test [] x e = cc
-find_passes test (y ∷ ys) x e =
-    elim (test y) as (λ v. test y ≡ v → cond v (Some y) (find test ys) ≡ Some x → test x ≡ true) [
-      | true ↦ λ passes first. let same : y ≡ x = cc in subst (λ z. test z ≡ true) same passes
-      | false ↦ λ fails later. find_passes test ys x later
-    ]
-    refl e
-
 pub next_is_above : (given : Given) (state : State) (batch : Batch) → next_batch given state ≡ Some batch → state.newest < batch.version
 next_is_above given state batch e =
-    ltb-true state.newest batch.version (find_passes (λ batch. nat_lt state.newest batch.version) (batches_to given.upto given.log) batch e)
+    ltb-true state.newest batch.version (found_passes (λ batch. nat_lt state.newest batch.version) (batches_to given.upto given.log) batch e)
 
 -- what an Applied event does
 pub applied_is : (given : Given) (state : State) (version : ℕ) (found : Option Batch) (next : State) → apply_next state version found ≡ Some next

@@ -31,8 +31,8 @@ use Rattle.st_model.proofs.Acts.{made as allowed, some_of}
 use Rattle.st_model.proofs.Counts.{applied_is, began_is, counted, counted_step, ended_is, only_if}
 use Rattle.st_model.proofs.EndsActs.{Below, FetchesOn, leaves_less, left_of, measure}
 use Rattle.st_model.proofs.EndsPairs.{block_goes_on}
-use Rattle.st_model.proofs.EndsPolls.{all_same_sessions, fewer_left, found_passes, kept_patient, poll_events, some_found, with_none, with_some}
-use Rattle.st_model.proofs.Lists.{all_append, all_map}
+use Rattle.st_model.proofs.EndsPolls.{all_same_sessions, fewer_left, kept_patient, poll_events, with_none, with_some}
+use Rattle.st_model.proofs.Lists.{found_passes, some_found, all_append, all_map}
 use Rattle.st_model.proofs.Reached.{stands}
 use Rattle.st_model.proofs.Traces.{state_after_push}
 
@@ -569,8 +569,7 @@ module _ {E : Type 0} (stage : Stage E) where
     line_leads p (step_of.Poll reader) times later inv =
         cond_both (has_open reader p.sessions) (do_poll stage (record p { lines = (step_of.Poll reader, times) ∷ later }) reader) (record p { lines = later })
         (λ q. (lines_left q.lines < lines_left ((step_of.Poll reader, suc times) ∷ later)) × InvOf q)
-        (λ has.
-        let ready = record p { lines = (step_of.Poll reader, times) ∷ later } in (
+        (λ has. (
           (let same = ap lines_left (poll_lines (record p { lines = (step_of.Poll reader, times) ∷ later }) reader has inv) in omega arith),
           (poll_keeps (record p { lines = (step_of.Poll reader, times) ∷ later }) reader has inv).0,
         ))

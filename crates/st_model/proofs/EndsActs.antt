@@ -18,10 +18,11 @@ use Rattle.st_model.specs.Partition.{IsPartition}
 use Rattle.st_model.specs.Pieces.{block_piece, by_phase, change_at, fetched_to, has_rows, in_phase, is_behind, rows_in_base, rows_taken, split_piece, start_piece, stops_at, takes_block, wants_block, wants_fetch}
 use Rattle.st_model.specs.State.{Given, Opening, State, available_at, began, commit_due, commit_version, ended, greatest_to, next_batch, step}
 use Rattle.st_model.specs.Trace.{event_by}
-use Rattle.st_model.proofs.Acts.{found_passes, some_of}
+use Rattle.st_model.proofs.Acts.{some_of}
 use Rattle.st_model.proofs.Counts.{applied_is, began_is, ended_is, greatest_reaches, next_is_above, only_if}
 use Rattle.st_model.proofs.Cuts.{Follow, begin_above, same_key}
 use Rattle.st_model.proofs.EndsPairs.{fewer_pass, left_between}
+use Rattle.st_model.proofs.Lists.{found_has, found_passes}
 
 -- ---- sums over pieces
 
@@ -57,7 +58,7 @@ total_changed count test change a b (q ∷ ps) p follow e =
           subst (λ r. total count (change_at r.begin change (q ∷ ps)) + count r ≡ total count (q ∷ ps) + total count (change r)) same here
       | false ↦ λ later.
           let apart : bytes_eq q.begin p.begin ≡ false =
-          found_has (λ r. bytes_eq q.begin r.begin ≡ false) ps p later (all_apart ps above) in
+          found_has test (λ r. bytes_eq q.begin r.begin ≡ false) ps p later (all_apart ps above) in
           let one : change_at p.begin change (q ∷ ps) ≡ q ∷ change_at p.begin change ps =
           ap (λ b. cond b (change q) (q ∷ []) ++ change_at p.begin change ps) apart in
           let rest = total_changed count test change q.end b ps p follow.2 later in
@@ -66,15 +67,6 @@ total_changed count test change a b (q ∷ ps) p follow e =
     ]
     e
   where
-    found_has : (P : Piece → Type 0) (rs : List Piece) (r : Piece) → find test rs ≡ Some r → AllByRecursion P rs → P r
-    found_has P [] r e all = cc
-    found_has P (s ∷ rs) r e all =
-        elim (test s) as (λ v. cond v (Some s) (find test rs) ≡ Some r → P r) [
-          | true ↦ λ first. let same : s ≡ r = cc in subst P same all.0
-          | false ↦ λ later. found_has P rs r later all.1
-        ]
-        e
-
     above : AllByRecursion (λ r. key_less r.begin q.end ≡ false) ps
     above = begin_above q.end b q.end ps follow.2 (less_irrefl q.end)
 
@@ -244,12 +236,7 @@ stops_wants key p e = by p.phase e
 
 -- ---- commits leave what there is to fetch as it is
 
--- the phase passes through a change that changes neither what is fetched, nor from which version on, nor what waits
-abbrev KeepsWork : (Phase → Phase) → Type 0
-KeepsWork change =
-    (newest : ℕ) (log : List Batch) (p : Piece) → (behind newest (in_phase (change p.phase) p) ≡ behind newest p)
-    × (waiting (in_phase (change p.phase) p) ≡ waiting p) × (left_of log (in_phase (change p.phase) p) ≡ left_of log p)
-
+-- two phases of a piece tell the same of what is fetched of it, from which version on, and whether it waits
 abbrev SameWork : (newest : ℕ) (log : List Batch) (p : Piece) (before after : Phase) → Type 0
 SameWork newest log p before after =
     (behind newest (in_phase after p) ≡ behind newest (in_phase before p))

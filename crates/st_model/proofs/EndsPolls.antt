@@ -2,7 +2,7 @@
 use Rattle.std.proofs.Common.{◌≡◌, ℕ, ◌+◌, ◌-◌, ◌<◌, ◌≤◌, Bool, true, false, not, ◌&&◌, ◌||◌, ◌==◌, nat_lt, cond, List, [], ◌∷◌, ◌++◌, map, filter, length, Option, Some, None, is_none, refl, sym, ap, ◌∙◌, subst, inl, inr, arith, length-append}
 use Rattle.std.proofs.lemmas.Bool.{cond_both, cond-true, and_from, eqb-true, eqb-false, eq-eqb, ne_eqb, not-false, cases_eq, true≢false}
 use Rattle.std.proofs.lemmas.List.Folds.{list_any-append}
-use Rattle.std.specs.List.{AllByRecursion, find, fold, list_any}
+use Rattle.std.specs.List.{AllByRecursion, find, fold}
 use Rattle.std.specs.Option.{option_map_or}
 use Rattle.st_fold.specs.Reading.{is_watch}
 use Rattle.st_fold.specs.declared.report.Event.{Event}
@@ -23,49 +23,8 @@ use Rattle.st_model.specs.State.{Given, State, Watch, is_registered, step}
 use Rattle.st_model.specs.Watching.{watch_answer, watch_state}
 use Rattle.st_model.proofs.Counts.{only_if}
 use Rattle.st_model.proofs.Cuts.{all_both}
-use Rattle.st_model.proofs.Lists.{all_map, all_of_map}
+use Rattle.st_model.proofs.Lists.{found_any, found_has, found_passes, none_found, some_found, all_map, all_of_map}
 use Rattle.st_model.proofs.Polls.{open_is, poll_versioned, same_requests}
-
--- ---- the session that is polled
-
-pub found_passes : {A : Type 0} (test : A → Bool) (xs : List A) (x : A) → find test xs ≡ Some x → test x ≡ true
-found_passes test [] x e = cc
-found_passes test (y ∷ xs) x e =
-    elim (test y) as (λ v. test y ≡ v → cond v (Some y) (find test xs) ≡ Some x → test x ≡ true) [
-      | true ↦ λ passes first. let same : y ≡ x = cc in subst (λ z. test z ≡ true) same passes
-      | false ↦ λ _ later. found_passes test xs x later
-    ]
-    refl e
-
-pub found_has : {A : Type 0} (test : A → Bool) (P : A → Type 0) (xs : List A) (x : A) → find test xs ≡ Some x → AllByRecursion P xs → P x
-found_has test P [] x e all = cc
-found_has test P (y ∷ xs) x e all =
-    elim (test y) as (λ v. cond v (Some y) (find test xs) ≡ Some x → P x) [
-      | true ↦ λ first. let same : y ≡ x = cc in subst P same all.0
-      | false ↦ λ later. found_has test P xs x later all.1
-    ]
-    e
-
-pub some_found : {A : Type 0} (test : A → Bool) (xs : List A) → list_any test xs ≡ true → (x : A) × (find test xs ≡ Some x)
-some_found test [] e = cc
-some_found {A = A} test (y ∷ xs) e =
-    elim (test y) as (λ v. (v || list_any test xs) ≡ true → (x : A) × (cond v (Some y) (find test xs) ≡ Some x))
-    [ true ↦ λ _. (y, refl) | false ↦ λ later. some_found test xs later ]
-    e
-
-pub found_any : {A : Type 0} (test : A → Bool) (xs : List A) (x : A) → find test xs ≡ Some x → list_any test xs ≡ true
-found_any test [] x e = cc
-found_any test (y ∷ xs) x e =
-    elim (test y) as (λ v. cond v (Some y) (find test xs) ≡ Some x → (v || list_any test xs) ≡ true)
-    [ true ↦ λ _. refl | false ↦ λ later. found_any test xs x later ]
-    e
-
-pub none_found : {A : Type 0} (test : A → Bool) (xs : List A) → find test xs ≡ None → list_any test xs ≡ false
-none_found test [] e = refl
-none_found test (y ∷ xs) e =
-    elim (test y) as (λ v. cond v (Some y) (find test xs) ≡ None → (v || list_any test xs) ≡ false)
-    [ true ↦ λ first. cc | false ↦ λ later. none_found test xs later ]
-    e
 
 -- ---- fewer polls are left
 

@@ -1,7 +1,7 @@
 -- Facts of each element of a list.
-use Rattle.std.proofs.Common.{ℕ, suc, zero, List, [], ◌∷◌, ◌++◌, All, map, take, drop, sym, subst, arith}
+use Rattle.std.proofs.Common.{◌≡◌, ℕ, suc, zero, Bool, true, false, ◌||◌, cond, Some, None, refl, List, [], ◌∷◌, ◌++◌, All, map, take, drop, sym, subst, arith}
 use Rattle.std.proofs.lemmas.List.{take-append-drop}
-use Rattle.std.specs.List.{AllByRecursion}
+use Rattle.std.specs.List.{AllByRecursion, find, list_any}
 use Rattle.st_fold.specs.declared.request.Request.{Request}
 use Rattle.st_model.specs.Report.{count_before, merged}
 
@@ -47,3 +47,44 @@ all_merged P (request ∷ requests) others all more =
     let count = count_before request.number others in
     all_append P (take count others) (request ∷ merged requests (drop count others)) (all_take P count others more)
     (all.0, all_merged P requests (drop count others) all.1 (all_drop P count others more))
+
+-- ---- what is found in a list
+
+pub found_passes : {A : Type 0} (test : A → Bool) (xs : List A) (x : A) → find test xs ≡ Some x → test x ≡ true
+found_passes test [] x e = cc
+found_passes test (y ∷ xs) x e =
+    elim (test y) as (λ v. test y ≡ v → cond v (Some y) (find test xs) ≡ Some x → test x ≡ true) [
+      | true ↦ λ passes first. let same : y ≡ x = cc in subst (λ z. test z ≡ true) same passes
+      | false ↦ λ _ later. found_passes test xs x later
+    ]
+    refl e
+
+pub found_has : {A : Type 0} (test : A → Bool) (P : A → Type 0) (xs : List A) (x : A) → find test xs ≡ Some x → AllByRecursion P xs → P x
+found_has test P [] x e all = cc
+found_has test P (y ∷ xs) x e all =
+    elim (test y) as (λ v. cond v (Some y) (find test xs) ≡ Some x → P x) [
+      | true ↦ λ first. let same : y ≡ x = cc in subst P same all.0
+      | false ↦ λ later. found_has test P xs x later all.1
+    ]
+    e
+
+pub some_found : {A : Type 0} (test : A → Bool) (xs : List A) → list_any test xs ≡ true → (x : A) × (find test xs ≡ Some x)
+some_found test [] e = cc
+some_found {A = A} test (y ∷ xs) e =
+    elim (test y) as (λ v. (v || list_any test xs) ≡ true → (x : A) × (cond v (Some y) (find test xs) ≡ Some x))
+    [ true ↦ λ _. (y, refl) | false ↦ λ later. some_found test xs later ]
+    e
+
+pub found_any : {A : Type 0} (test : A → Bool) (xs : List A) (x : A) → find test xs ≡ Some x → list_any test xs ≡ true
+found_any test [] x e = cc
+found_any test (y ∷ xs) x e =
+    elim (test y) as (λ v. cond v (Some y) (find test xs) ≡ Some x → (v || list_any test xs) ≡ true)
+    [ true ↦ λ _. refl | false ↦ λ later. found_any test xs x later ]
+    e
+
+pub none_found : {A : Type 0} (test : A → Bool) (xs : List A) → find test xs ≡ None → list_any test xs ≡ false
+none_found test [] e = refl
+none_found test (y ∷ xs) e =
+    elim (test y) as (λ v. cond v (Some y) (find test xs) ≡ None → (v || list_any test xs) ≡ false)
+    [ true ↦ λ first. cc | false ↦ λ later. none_found test xs later ]
+    e

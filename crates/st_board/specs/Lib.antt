@@ -1,6 +1,7 @@
 pub use Rattle.st_course.specs.Course
 pub use Rattle.st_course.specs.Jobs
 pub use Rattle.st_course.specs.Sent
+pub use Rattle.st_fold.specs.Endings
 pub mod Base
 pub mod Kept
 pub mod Logs

@@ -4,10 +4,7 @@ use Rattle.std.specs.List.{AllByRecursion, list_any}
 use Rattle.std.specs.Option.{ForSome, option_map}
 use Rattle.st_fold.specs.Map.{Map}
 use Rattle.st_fold.specs.Plain.{Rises}
-use Rattle.st_fold.specs.declared.report.Ending.{Ending}
-use Rattle.st_fold.specs.declared.report.Ending.TheVariants.{Closed, Killed, Faulted}
 use Rattle.st_fold.specs.declared.report.Event.{Event}
-use Rattle.st_fold.specs.declared.report.Event.TheVariants as event
 use Rattle.st_key.specs.Spans.{all_keys}
 use Rattle.st_meta.specs.declared.state.Meta.{Meta}
 use Rattle.st_model.specs.State.{Given, Opening, State}
@@ -123,9 +120,3 @@ pub record StandsFor (given : Given) (opening : Opening) (store : Store) (board 
       (λ job. (key : List ℕ) → IsUsers key → value_behind key (value_at board.base key) job.ops ≡ value_of given.log job.version key)
   -- the base has the pairs of the opening's store, changed by the jobs of the durable commits
   pub committed : IsCommitted given opening store board
-
--- the last event of a trace by how its life ended
-abbrev pub last_event : Ending → List Event
-last_event Closed = event.Closed ∷ []
-last_event Killed = event.Killed ∷ []
-last_event Faulted = []

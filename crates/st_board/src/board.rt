@@ -70,7 +70,8 @@ impl<N: Story> Board<N> {
     ghost use Rattle.st_course.specs.Jobs.{clears_of, meta_of};
     ghost use Rattle.st_meta.specs.Stored.{IsState};
     ghost use Rattle.st_board.specs.Kept.{IsUsers};
-    ghost use Rattle.st_board.specs.Stands.{IsStill, StandsFor, last_event};
+    ghost use Rattle.st_board.specs.Stands.{IsStill, StandsFor};
+    ghost use Rattle.st_fold.specs.Endings.{last_event};
     ghost use Rattle.st_course.specs.Sent.{value_of};
     ghost use Rattle.st_board.specs.Views.{IsViewed};
     ghost use Rattle.st_versioned.specs.Root.{over, value_at};

@@ -1,8 +1,10 @@
 -- Polls of a reader's first open session.
-use Rattle.std.proofs.Common.{◌≡◌, ℕ, zero, suc, ◌+◌, ◌-◌, ◌<◌, Bool, true, false, ◌&&◌, ◌||◌, ◌==◌, cond, List, [], ◌∷◌, length, take, refl, sym, ap, ◌∙◌, arith, add-one, ◌++◌, subst, get_or, set, length-append, is_none}
-use Rattle.std.proofs.lemmas.Bool.{eqb-false}
-use Rattle.std.proofs.lemmas.List.{get_or_read}
-use Rattle.std.specs.Prelude.{Option, Some, None}
+use Rattle.std.proofs.Common.{◌≡◌, ℕ, zero, suc, ◌+◌, ◌-◌, ◌<◌, Bool, true, false, ◌&&◌, ◌||◌, ◌==◌, cond, List, [], ◌∷◌, length, take, inl, inr, refl, sym, ap, ◌∙◌, arith, add-one, ◌++◌, subst, get_or, set, length-append, is_none}
+use Rattle.std.proofs.Math.Seq.{take-length}
+use Rattle.std.proofs.lemmas.Bool.{cases_eq, eqb-false}
+use Rattle.std.proofs.lemmas.Grind.{get_or-set_at}
+use Rattle.std.proofs.lemmas.List.{get_or_read, get_or-set_other}
+use Rattle.std.specs.Prelude.{Option, Some, None, MatchOption, unwrap_or}
 use Rattle.std.specs.List.{AllByRecursion, list_any}
 use Rattle.st_fold.specs.declared.request.Answer.{Answer}
 use Rattle.st_fold.specs.declared.request.Ask.{Ask}
@@ -12,8 +14,8 @@ use Rattle.st_model.specs.Plain.{plain_state}
 use Rattle.st_model.specs.Reply.{Reply, too_old, not_yet, wrong_shard, found, reply}
 use Rattle.st_model.specs.Session.{answer_to}
 use Rattle.st_model.specs.State.{Given, State}
-use Rattle.st_model.specs.Schedule.{Session, has_open, is_open, poll, poll_first, poll_of}
-use Rattle.storage_tool.specs.Life.{IsWaiting, polls_left}
+use Rattle.st_model.specs.Schedule.{Session, has_open, is_open, poll, poll_first, poll_of, polls_left, polls_to_come}
+use Rattle.storage_tool.specs.Life.{AreSought, IsFirstOpen, IsWaiting}
 
 -- what a poll of a request at a version leads to
 pub versioned_poll : (given : Given) (state : State) (session : Session) → is_watch session.request.ask ≡ false
@@ -102,25 +104,59 @@ module _ (given : Given) (reader at : ℕ) (state : State) where
         | false ↦ λ e f. ap (λ rest. s ∷ rest) (poll_first-at ss i d (omega arith) e f)
       ] before here
 
-  -- a reader with no open session gets none by a poll
-  pub stays_shut : (other : ℕ) (sessions : List Session) → has_open other sessions ≡ false → has_open other (poll_first given reader at state sessions) ≡ false
-  stays_shut other [] h = refl
-  stays_shut other (s ∷ ss) h =
-      elim (is_open reader s) as (λ b. is_open reader s ≡ b → has_open other (cond b (poll given at state s ∷ ss) (s ∷ poll_first given reader at state ss)) ≡ false) [
+  -- a reader with no open session up to a place gets none there by a poll
+  pub shut_to : (other place : ℕ) (sessions : List Session) → has_open other (take place sessions) ≡ false
+      → has_open other (take place (poll_first given reader at state sessions)) ≡ false
+  shut_to other zero sessions h = refl
+  shut_to other (suc place) [] h = refl
+  shut_to other (suc place) (s ∷ ss) h =
+      elim (is_open reader s) as (λ b. is_open reader s ≡ b
+      → has_open other (take (suc place) (cond b (poll given at state s ∷ ss) (s ∷ poll_first given reader at state ss))) ≡ false) [
         | true ↦ λ e.
-            let shut = neither (is_open other s) (list_any (is_open other) ss) h in
-            let of_other : (s.request.reader == other) ≡ false = first_false (s.request.reader == other) (is_none s.answer) shut.0 (of_reader reader s e).1 in
+            let shut = neither (is_open other s) (list_any (is_open other) (take place ss)) h in
+            let of_other : (s.request.reader == other) ≡ false =
+            first_false (s.request.reader == other) (is_none s.answer) shut.0 (of_reader reader s e).1 in
             rw of_other shut.1
         | false ↦ λ e.
-            let shut = neither (is_open other s) (list_any (is_open other) ss) h in
-            rw shut.0 (stays_shut other ss shut.1)
+            let shut = neither (is_open other s) (list_any (is_open other) (take place ss)) h in
+            rw shut.0 (shut_to other place ss shut.1)
       ] refl
 
--- the session at a place is the reader's first that is open
-abbrev pub IsFirstOpen : (reader place : ℕ) → List Session → Type 0
-IsFirstOpen reader place sessions =
-    (place < length sessions) × (list_any (is_open reader) (take place sessions) ≡ false)
-    × (list_any (is_open reader) (take (place + 1) sessions) ≡ true)
+  poll_first-count : (sessions : List Session) → length (poll_first given reader at state sessions) ≡ length sessions
+  poll_first-count [] = refl
+  poll_first-count (s ∷ ss) =
+      elim (is_open reader s) as (λ b. length (cond b (poll given at state s ∷ ss) (s ∷ poll_first given reader at state ss)) ≡ suc (length ss)) [
+        | true ↦ refl
+        | false ↦ ap suc (poll_first-count ss)
+      ]
+
+  -- a reader with no open session gets none by a poll
+  pub stays_shut : (other : ℕ) (sessions : List Session) → has_open other sessions ≡ false → has_open other (poll_first given reader at state sessions) ≡ false
+  stays_shut other sessions h =
+      let polled = poll_first given reader at state sessions in
+      let whole : take (length sessions) polled ≡ polled = ap (λ n. take n polled) (sym (poll_first-count sessions)) ∙ take-length polled in
+      sym (ap (has_open other) whole) ∙ shut_to other (length sessions) sessions (ap (has_open other) (take-length sessions) ∙ h)
+
+  -- each reader's place stays
+  pub sought_after : (places : List ℕ) (sessions : List Session) → AreSought places sessions → AreSought places (poll_first given reader at state sessions)
+  sought_after places sessions sought = λ other. shut_to other (get_or places other 0) sessions (sought other)
+
+-- a reader's place goes on
+pub sought_on : (places : List ℕ) (sessions : List Session) (reader place : ℕ) → reader < length places → AreSought places sessions → has_open reader (take place sessions) ≡ false
+    → AreSought (set places reader place) sessions
+sought_on places sessions reader place below sought shut = λ other.
+    elim (cases_eq other reader) [
+      | inl same ↦
+          subst (λ n. has_open other (take n sessions) ≡ false) (sym (get_or-set_at places reader other place 0 same below))
+          (subst (λ r. has_open r (take place sessions) ≡ false) (sym same) shut)
+      | inr apart ↦ subst (λ n. has_open other (take n sessions) ≡ false) (sym (get_or-set_other places reader other place 0 apart)) (sought other)
+    ]
+
+-- where a reader is sought next: where its open session was found, or behind all
+pub sought_next : (found : Option ℕ) (reader : ℕ) (sessions : List Session) → MatchOption found (has_open reader sessions ≡ false) (λ place. IsFirstOpen reader place sessions)
+    → has_open reader (take (unwrap_or found (length sessions)) sessions) ≡ false
+sought_next None reader sessions h = ap (has_open reader) (take-length sessions) ∙ h
+sought_next (Some place) reader sessions h = h.1
 
 -- a poll that was added to the session there, and its answer
 pub poll_written : (given : Given) (reader at newest : ℕ) (xs : List Session) (place n : ℕ) (seen lent new : Session) (answer : Option Answer)
@@ -164,16 +200,30 @@ module _ (given : Given) (reader at newest : ℕ) where
         | false ↦ λ e. (all.0, wait_after ss all.1)
       ] refl
 
+  -- a session that was waiting and open has fewer polls to come after one
+  poll_less : (session : Session) → IsWaiting given.settings.patience session → is_open reader session ≡ true
+      → polls_to_come given.settings.patience (poll given at (plain_state newest) session) < polls_to_come given.settings.patience session
+  poll_less session waits here =
+      let below = waits.1 (open_has_none reader session here) in
+      let before : polls_to_come given.settings.patience session ≡ given.settings.patience - length session.places =
+      ap (λ b. cond b (given.settings.patience - length session.places) 0) (of_reader reader session here).1 in
+      subst (λ n. polls_to_come given.settings.patience (poll given at (plain_state newest) session) < n) (sym before)
+      (elim (is_none (poll_of given (plain_state newest) session).answer) as (λ b. cond b (given.settings.patience - length (session.places ++ at ∷ [])) 0 < given.settings.patience - length session.places) [
+        | true ↦ omega (arith, length-append session.places (at ∷ []))
+        | false ↦ omega arith
+      ])
+
   -- a poll leaves fewer
   pub fewer_after : (sessions : List Session) → AllByRecursion (IsWaiting given.settings.patience) sessions → has_open reader sessions ≡ true
       → polls_left given.settings.patience (poll_first given reader at (plain_state newest) sessions) < polls_left given.settings.patience sessions
   fewer_after [] all h = cc
   fewer_after (s ∷ ss) all h =
       elim (is_open reader s) as (λ b. is_open reader s ≡ b → (b || has_open reader ss) ≡ true
-      → polls_left given.settings.patience (cond b (poll given at (plain_state newest) s ∷ ss) (s ∷ poll_first given reader at (plain_state newest) ss)) < (given.settings.patience - length s.places) + polls_left given.settings.patience ss) [
+      → polls_left given.settings.patience (cond b (poll given at (plain_state newest) s ∷ ss) (s ∷ poll_first given reader at (plain_state newest) ss))
+      < polls_to_come given.settings.patience s + polls_left given.settings.patience ss) [
         | true ↦ λ e f.
-            let below = all.0.1 (open_has_none reader s e) in
-            omega (arith, length-append s.places (at ∷ []))
+            let one_less : polls_to_come given.settings.patience (poll given at (plain_state newest) s) < polls_to_come given.settings.patience s = poll_less s all.0 e in
+            omega arith
         | false ↦ λ e f.
             let less = fewer_after ss all.1 f in
             omega arith

@@ -1,5 +1,5 @@
--- A life that is played, as far as it is, and how it ends.
-use Rattle.std.specs.Prelude.{◌≡◌, ℕ, suc, ◌+◌, ◌-◌, ◌<◌, Bool, true, false, nat_lt, List, [], ◌∷◌, ◌++◌, length, Some, None, MatchOption, if◌then◌else◌}
+-- A life that is played, how far it is, and how it ends.
+use Rattle.std.specs.Prelude.{◌≡◌, ℕ, suc, ◌+◌, ◌<◌, Bool, true, false, nat_lt, List, [], ◌∷◌, ◌++◌, length, slice_index, take, Some, None, MatchOption, if◌then◌else◌}
 use Rattle.std.specs.List.{AllByRecursion}
 use Rattle.st_mutation.specs.declared.batch.Batch.{Batch}
 use Rattle.st_fold.specs.declared.plan.Do.{Do}
@@ -65,7 +65,7 @@ IsTurnOf readers playing =
     IsAtRest playing × ((before : List ℕ) × (readers_at_end ≡ before ++ readers)
     × AllByRecursion (λ reader. has_open reader playing.so_far.sessions ≡ false) before)
 
--- the readers from one of them on, each in its turn, and at last the requests that are answered at the end
+-- nothing comes next
 abbrev pub IsOver : Playing → Type 0
 IsOver playing = next_plainly playing.given playing.so_far ≡ None
 
@@ -84,10 +84,18 @@ abbrev pub IsWaiting : (patience : ℕ) → Session → Type 0
 IsWaiting patience session =
     (is_watch session.request.ask ≡ false) × (session.answer ≡ None → length session.places < patience)
 
--- how many polls these sessions may still have
-abbrev pub polls_left : (patience : ℕ) → List Session → ℕ
-polls_left patience [] = 0
-polls_left patience (session ∷ sessions) = (patience - length session.places) + polls_left patience sessions
+-- all of these are so
+abbrev pub AreWaiting : (patience : ℕ) → List Session → Type 0
+AreWaiting patience sessions = AllByRecursion (IsWaiting patience) sessions
+
+-- the session at a place is the reader's first that is open
+abbrev pub IsFirstOpen : (reader place : ℕ) → List Session → Type 0
+IsFirstOpen reader place sessions =
+    (place < length sessions) × (has_open reader (take place sessions) ≡ false) × (has_open reader (take (place + 1) sessions) ≡ true)
+
+-- each reader has no open session before its place
+abbrev pub AreSought : (places : List ℕ) → List Session → Type 0
+AreSought places sessions = (reader : ℕ) → has_open reader (take (slice_index places reader) sessions) ≡ false
 
 -- whether the first of the second list comes before the first of the first list
 abbrev pub is_next : List Request → List Request → Bool

@@ -1,14 +1,13 @@
 //! One life of the server, in one thread, by its written schedule.
-ghost use Rattle.std.specs.List.{AllByRecursion, list_any};
-ghost use Rattle.std.specs.Prelude.{◌≡◌, ◌+◌, ◌<◌, ◌≤◌, ◌++◌, ◌∷◌, ℕ, List, [], map, vec_len, vec_capacity, true, false, length, take, MatchOption, IfOk, OnOk, OnErr, None};
+ghost use Rattle.std.specs.Prelude.{◌≡◌, ◌+◌, ◌<◌, ◌≤◌, ◌++◌, ◌∷◌, ℕ, List, [], map, vec_len, vec_capacity, true, false, length, slice_index, take, MatchOption, IfOk, OnOk, OnErr, None};
 ghost use Rattle.st_fold.specs.Plain.{IsPlainLife};
 ghost use Rattle.st_fold.specs.Reading.{is_watch, version_of};
 ghost use Rattle.st_model.specs.Plain.{IsPlain, begin_plainly, first_to, plain_state};
 ghost use Rattle.st_model.specs.Reply.{not_yet, reply};
 ghost use Rattle.st_model.specs.Report.{merged, requests_of};
-ghost use Rattle.st_model.specs.Schedule.{answered_by, has_open, is_open, unpolled};
+ghost use Rattle.st_model.specs.Schedule.{answered_by, has_open, is_open, polls_left, unpolled};
 ghost use Rattle.st_model.specs.Session.{answer_to};
-ghost use Rattle.storage_tool.specs.Life.{closed, is_next, left_with, owning_all, polled, polls_left, Applies, DoesStep, EndsAs, IsAtRest, IsOver, IsPlayed, IsTurnOf, IsWaiting, LeadsTo, StopsAt};
+ghost use Rattle.storage_tool.specs.Life.{closed, is_next, left_with, owning_all, polled, Applies, AreWaiting, DoesStep, EndsAs, IsAtRest, IsFirstOpen, IsOver, IsPlayed, IsTurnOf, LeadsTo, StopsAt};
 
 use st_fold::{
     Act, Answer, Answered, Ask, Do, Ending, Event, Life, LifePlan, Request, Settings, answer_to,
@@ -67,16 +66,13 @@ impl Session {
     }
 }
 
-// The first session of a reader that is open. It is sought from the front each time.
-fn first_open(sessions: &[Session], reader: u32) -> Option<usize>
-    ensures { MatchOption result
-        (has_open reader sessions.now ≡ false)
-        (λ place. (place < length sessions.now)
-        × (list_any (is_open reader) (take place sessions.now) ≡ false)
-        × (list_any (is_open reader) (take (place + 1) sessions.now) ≡ true)) }
+// The first session of a reader that is open. It is sought from a place before which none is.
+fn first_open(sessions: &[Session], from: usize, reader: u32) -> Option<usize>
+    requires { has_open reader (take from sessions.now) ≡ false }
+    ensures { MatchOption result (has_open reader sessions.now ≡ false) (λ place. IsFirstOpen reader place sessions.now) }
 {
-    for (place, session) in sessions.iter().enumerate() {
-        if session.is_open(reader) {
+    for place in from..sessions.len() {
+        if sessions[place].is_open(reader) {
             return Some(place);
         }
     }
@@ -98,11 +94,12 @@ struct Running<'a> {
     left: &'a [Batch],
     trace: Vec<Event>,
     sessions: Vec<Session>,
+    // For each reader, a place before which none of its sessions is open.
+    first: [usize; 65],
 }
 
 impl<'a> Model for Running<'a> {
-    ghost use Rattle.std.specs.List.{AllByRecursion};
-    ghost use Rattle.storage_tool.specs.Life.{IsWaiting, Playing, owning_all};
+    ghost use Rattle.storage_tool.specs.Life.{AreSought, AreWaiting, Playing, owning_all};
 
     ghost Value = { Playing };
 
@@ -117,7 +114,14 @@ impl<'a> Model for Running<'a> {
       };
     } };
 
-    ghost invariant = { λ r. AllByRecursion (IsWaiting r.settings.patience) r.sessions.items };
+    ghost invariant = { λ r. AreWaiting r.settings.patience r.sessions.items × AreSought r.first r.sessions.items };
+}
+
+// The places that the readers are sought from before any was.
+fn unsought() -> [usize; 65]
+    ensures { (reader : ℕ) → slice_index result reader ≡ 0 }
+{
+    [0; 65]
 }
 
 // Whether the first of the others comes before the first request.
@@ -203,7 +207,7 @@ impl<'a> Running<'a> {
         lines: &'a [(Do, u64)],
         sessions: Vec<Session>,
     ) -> Result<Running<'a>, AllocError>
-        requires { AllByRecursion (IsWaiting settings.patience) sessions.items }
+        requires { AreWaiting settings.patience sessions.items }
         ensures { IfOk result (λ running. running ≡ record {
           given = owning_all settings log.now upto;
           so_far = record {
@@ -227,6 +231,7 @@ impl<'a> Running<'a> {
             left: log,
             trace,
             sessions,
+            first: unsought(),
         })
     }
 
@@ -313,6 +318,22 @@ impl<'a> Running<'a> {
         })
     }
 
+    // The place of a reader's first open request. It is sought from where the last one was.
+    fn seek(&mut self, reader: u32) -> Option<usize>
+        ensures found { MatchOption result
+            (has_open reader self.old.so_far.sessions ≡ false)
+            (λ place. IsFirstOpen reader place self.old.so_far.sessions) }
+        ensures same { self.new ≡ self.old }
+    {
+        let reader_at = reader as usize;
+        if reader_at >= self.first.len() {
+            return first_open(&self.sessions, 0, reader);
+        }
+        let found = first_open(&self.sessions, self.first[reader_at], reader);
+        self.first[reader_at] = found.unwrap_or(self.sessions.len());
+        found
+    }
+
     // Polls the reader's first open request, and answers whether there is one.
     fn poll(&mut self, reader: u32) -> Result<bool, AllocError>
         ensures done { IfOk result (λ done. done ≡ has_open reader self.old.so_far.sessions) }
@@ -322,7 +343,7 @@ impl<'a> Running<'a> {
             < polls_left self.old.given.settings.patience self.old.so_far.sessions) }
         ensures err { OnErr result (self.new ≡ self.old) }
     {
-        let Some(place) = first_open(&self.sessions, reader) else {
+        let Some(place) = self.seek(reader) else {
             return Ok(false);
         };
         let answer = self.answer(&self.sessions[place])?;

@@ -1,4 +1,4 @@
-use Rattle.storage_tool.specs.Life.{polls_left}
+use Rattle.st_model.specs.Schedule.{polls_left}
 use Rattle.storage_tool.proofs.Steps.{InTurn}
 use Rattle.storage_tool.proofs.life.Running.poll_through.Given as goal
 

@@ -11,6 +11,7 @@ ghost use Rattle.st_queue.specs.declared.frame.QueueRefusal.TheVariants.{Broken,
 
 use crate::{EngineMount, EngineRefusal, map, recovery, snapshot, writing};
 use bytes::Bytes;
+use rand_pcg::Pcg32;
 use st_disk::Disk;
 use st_fold::Settings;
 use st_ops::{Op, encode, form_of_parts, one_spelling};
@@ -30,6 +31,8 @@ pub struct Engine<D: Disk> {
     cursor: Option<Bytes>,
     began: u64,
     quota: u64,
+    // where the priorities of its entries come from
+    random: Pcg32,
 }
 
 impl<D: Disk> Model for Engine<D> {
@@ -43,7 +46,8 @@ impl<D: Disk> Model for Engine<D> {
     ghost invariant = { λ e. Keeps (D.history e.queue.disk) e.queue.state (pairs_of e.pairs) e.fresh e.cursor e.began };
 }
 
-// The map behind a commit, the same to be told, the commit's payload, and what the snapshot has come to.
+// The map behind a commit, the same to be told, the commit's payload, what the snapshot has come to, and where further
+// priorities come from.
 #[derive(Drop)]
 struct Prepared {
     pairs: PTree<Bytes>,
@@ -51,6 +55,7 @@ struct Prepared {
     payload: Vec<u8>,
     cursor: Option<Bytes>,
     ended: bool,
+    random: Pcg32,
 }
 
 impl<D: Disk> Engine<D> {
@@ -96,7 +101,7 @@ impl<D: Disk> Engine<D> {
             → (faults ≡ D.fault_count e.disk) × (risen (D.fault_count disk) ≤ D.fault_count e.disk)) }
     {
         let (mut queue, frames) = Queue::mount(alloc, disk, settings.swap, settings.limit)?;
-        match recovery::recover(alloc, &frames) {
+        match recovery::recover(alloc, &frames, settings.seed) {
             Ok(recovered) => {
                 queue.discard_before(recovered.discarded);
                 Ok(Engine {
@@ -107,6 +112,7 @@ impl<D: Disk> Engine<D> {
                     cursor: recovered.cursor,
                     began: recovered.began,
                     quota: settings.quota,
+                    random: recovered.random,
                 })
             }
             Err(_) => Err(EngineMount {
@@ -163,6 +169,7 @@ impl<D: Disk> Engine<D> {
         self.began = writing::discard(&mut self.queue, self.began, seq, ready.ended);
         self.pairs = ready.pairs;
         self.cursor = ready.cursor;
+        self.random = ready.random;
         self.fresh = false;
         Ok(ready.told)
     }
@@ -184,7 +191,8 @@ impl<D: Disk> Engine<D> {
     {
         form_of_parts();
         one_spelling();
-        let pairs = map::changed(&self.pairs, ops)?;
+        let mut random = self.random.clone()?;
+        let pairs = map::changed(&self.pairs, ops, &mut random)?;
         let told = pairs.share()?;
         let written = snapshot::write(self.alloc, ops, &pairs, self.cursor.clone()?, self.quota)?;
         let payload = encode(self.alloc, &written.ops)?;
@@ -194,6 +202,7 @@ impl<D: Disk> Engine<D> {
             payload,
             cursor: written.cursor,
             ended: written.ended,
+            random,
         })
     }
 
@@ -224,6 +233,7 @@ impl<D: Disk> Engine<D> {
             cursor: _,
             began: _,
             quota: _,
+            random: _,
         } = self;
         queue.dismount()
     }

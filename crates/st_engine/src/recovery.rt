@@ -10,8 +10,11 @@ ghost use Rattle.st_ops.specs.Grammar.{has_form};
 ghost use Rattle.st_queue.specs.Reading.{Rises};
 ghost use Rattle.std.specs.List.{AllByRecursion, list_any};
 
-use crate::map::{PRIORITY, change};
+use crate::map::change;
 use bytes::Bytes;
+use rand_core::SeedableRng;
+use rand_core::utils::NextWord;
+use rand_pcg::Pcg32;
 use st_ops::{Op, OpsRefusal, decode};
 use st_ptree::{PTree, Steps, pairs_are_a_map};
 use st_queue::Frame;
@@ -25,6 +28,8 @@ struct Recovery {
     alloc: Global,
     pairs: PTree<Bytes>,
     last: Option<Bytes>,
+    // where the priorities of its entries come from
+    random: Pcg32,
 }
 
 impl Model for Recovery {
@@ -41,13 +46,14 @@ impl Recovery {
     ghost use Rattle.st_key.specs.Spans.{key_less};
     ghost use Rattle.st_engine.specs.Replay.{from_map};
 
-    fn new(alloc: Global) -> Recovery
+    fn new(alloc: Global, seed: u64) -> Recovery
         ensures { result ≡ from_map [] }
     {
         Recovery {
             alloc,
             pairs: PTree::new(alloc),
             last: None,
+            random: Pcg32::seed_from_u64(seed),
         }
     }
 
@@ -77,8 +83,9 @@ impl Recovery {
     {
         pairs_are_a_map::<Bytes>();
         self.clear_gap(key.as_slice(), steps)?;
+        let priority = self.random.next_word();
         self.pairs
-            .insert(key.clone()?, PRIORITY, value.clone()?, steps)?;
+            .insert(key.clone()?, priority, value.clone()?, steps)?;
         self.last = Some(key.clone()?);
         Ok(())
     }
@@ -111,7 +118,7 @@ impl Recovery {
         match op {
             Op::SnapItem(key, value) => self.item(key, value, steps),
             Op::SnapEnd => self.end(steps),
-            _ => change(&mut self.pairs, op, steps),
+            _ => change(&mut self.pairs, op, &mut self.random, steps),
         }
     }
 
@@ -196,6 +203,8 @@ fn has_end(ops: &[Op]) -> bool
 #[derive(Drop)]
 pub(crate) struct Recovered {
     pub pairs: PTree<Bytes>,
+    /// Where the priorities of further entries come from.
+    pub random: Pcg32,
     /// The key of the last item of the snapshot in progress.
     pub cursor: Option<Bytes>,
     /// The number from which the frames of that snapshot rise.
@@ -207,6 +216,7 @@ pub(crate) struct Recovered {
 fn recover_in<L: Ledger>(
     alloc: Global,
     frames: &[Frame],
+    seed: u64,
     blank: Blank,
 ) -> Result<Recovered, AllocError>
     requires name { blank.name ≡ L.name }
@@ -219,7 +229,7 @@ fn recover_in<L: Ledger>(
     ensures below { IfOk result (λ r. (next : ℕ) → AllByRecursion (λ frame. frame.seq < next) frames.now → r.began ≤ next) }
 {
     let mut steps = Steps::<L>::new(blank);
-    let mut recovery = Recovery::new(alloc);
+    let mut recovery = Recovery::new(alloc, seed);
     let mut began = 0;
     let mut discarded = 0;
     for frame in frames {
@@ -230,19 +240,20 @@ fn recover_in<L: Ledger>(
     }
     Ok(Recovered {
         pairs: recovery.pairs,
+        random: recovery.random,
         cursor: recovery.last,
         began,
         discarded,
     })
 }
 
-/// What frames, whose numbers rise, make of the empty map.
-pub(crate) fn recover(alloc: Global, frames: &[Frame]) -> Result<Recovered, AllocError>
+/// What frames, whose numbers rise, make of the empty map. Its entries' priorities come from the seed.
+pub(crate) fn recover(alloc: Global, frames: &[Frame], seed: u64) -> Result<Recovered, AllocError>
     requires numbers { Rises 0 frames.now }
     ensures stand { IfOk result (λ r. Stand r.discarded r.began (pairs_of r.pairs) r.cursor frames.now) }
     ensures points { IfOk result (λ r. record { discarded = r.discarded; began = r.began } ≡ points_of frames.now) }
     ensures order { IfOk result (λ r. r.discarded ≤ r.began) }
     ensures below { IfOk result (λ r. (next : ℕ) → AllByRecursion (λ frame. frame.seq < next) frames.now → r.began ≤ next) }
 {
-    recover_in::<Brand>(alloc, frames, Blank::new(1))
+    recover_in::<Brand>(alloc, frames, seed, Blank::new(1))
 }

@@ -1,24 +1,13 @@
 -- The first and the last of some entries in order.
-use Rattle.std.proofs.Common.{◌≡◌, ◌∙◌, ℕ, zero, suc, ◌<◌, Bool, true, false, cond, List, [], ◌∷◌, length, get_or, Option, Some, None, refl, sym, ap, subst, arith}
+use Rattle.std.proofs.Common.{◌≡◌, ℕ, zero, suc, ◌<◌, Bool, true, false, cond, List, [], ◌∷◌, length, get_or, Option, Some, None, refl, sym, subst, arith}
 use Rattle.std.specs.Prelude.{Contains, MatchOption}
 use Rattle.std.specs.Option.{option_or}
 use Rattle.std.specs.List.{AllByRecursion}
-use Rattle.std.specs.Ordering.{is_lt, ordering_reverse}
 use Rattle.std.specs.FinMap.Entries as entries
-use Rattle.std.specs.declared.cmp.Ordering.TheVariants.{Less}
-use Rattle.std.proofs.lemmas.Cmp.{nat_list_cmp_total, tied_itself}
 use Rattle.st_ptree.specs.Entries.{key_cmp, less, first_of, last_of, is_ordered}
 use Rattle.st_ptree.specs.Nearest.{HaveNone, IsLeast, IsGreatest}
-use Rattle.st_ptree.proofs.Changes.{both_true, is_Less}
-
--- no key is below itself, and none is below one that is below it
-pub less_itself : (a : List ℕ) → less a a ≡ false
-less_itself a = ap is_lt (tied_itself nat_list_cmp_total a)
-
-less_back : (a b : List ℕ) → less a b ≡ true → less b a ≡ false
-less_back a b e =
-    let forth : key_cmp a b ≡ Less = is_Less _ e in
-    ap is_lt (nat_list_cmp_total.antisymm b a ∙ ap ordering_reverse forth)
+use Rattle.st_ptree.proofs.Ordered.{both_true}
+use Rattle.st_ptree.proofs.Orders.{less_asym, less_itself}
 
 module _ {X : Type 0} (keeps : List ℕ → Bool) where
   here : (e : List ℕ × (ℕ × X)) (es : List (List ℕ × (ℕ × X))) → Contains (e ∷ es) e
@@ -33,7 +22,7 @@ module _ {X : Type 0} (keeps : List ℕ → Bool) where
   none_below e [] below = tt
   none_below e (f ∷ es) below =
       let parts = both_true (less e.0 f.0) (entries.below_all key_cmp e.0 es) below in
-      (λ _. less_back e.0 f.0 parts.0, none_below e es parts.1)
+      (λ _. less_asym e.0 f.0 parts.0, none_below e es parts.1)
 
   -- an entry of a list is above one that is below all
   is_above : (e f : List ℕ × (ℕ × X)) (es : List (List ℕ × (ℕ × X))) → entries.below_all key_cmp e.0 es ≡ true → Contains es f → less f.0 e.0 ≡ false
@@ -42,7 +31,7 @@ module _ {X : Type 0} (keeps : List ℕ → Bool) where
       at_place : (es : List (List ℕ × (ℕ × X))) (k : ℕ) → entries.below_all key_cmp e.0 es ≡ true → k < length es → get_or es k f ≡ f → less f.0 e.0 ≡ false
       at_place [] k below inside is = absurd (omega arith)
       at_place (g ∷ es) zero below inside is =
-          subst (λ (x : List ℕ × (ℕ × X)). less x.0 e.0 ≡ false) is (less_back e.0 g.0 (both_true (less e.0 g.0) (entries.below_all key_cmp e.0 es) below).0)
+          subst (λ (x : List ℕ × (ℕ × X)). less x.0 e.0 ≡ false) is (less_asym e.0 g.0 (both_true (less e.0 g.0) (entries.below_all key_cmp e.0 es) below).0)
       at_place (g ∷ es) (suc k) below inside is = at_place es k (both_true (less e.0 g.0) (entries.below_all key_cmp e.0 es) below).1 (omega arith) is
 
   pub first-least : (es : List (List ℕ × (ℕ × X))) → is_ordered es ≡ true

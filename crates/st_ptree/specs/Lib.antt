@@ -1,2 +1,11 @@
+pub use Rattle.st_node.specs.Keys
+pub use Rattle.st_node.specs.Shapes
+pub mod Cut
+pub mod Depth
 pub mod Entries
+pub mod Going
+pub mod Insert
+pub mod Join
 pub mod Nearest
+pub mod Treap
+pub mod Ways

@@ -1,37 +1,54 @@
-//! The map as a list behind a count of its owners.
-ghost use Rattle.std.specs.Prelude.{◌≡◌, [], ◌==◌, length, IfOk, OnOk, OnErr, IsTrue, is_some};
+//! The map as a tree of nodes.
+ghost use Rattle.std.specs.Prelude.{◌≡◌, ◌+◌, ◌*◌, ◌≤◌, [], ◌==◌, length, IfOk, OnOk, OnErr, IsTrue, is_some};
 ghost use Rattle.std.specs.Option.{option_copied, option_map};
+ghost use Rattle.st_node.specs.Shapes.{entry_of};
+ghost use Rattle.st_ptree.specs.Depth.{depth_at, depth_before, depth_behind};
 ghost use Rattle.st_ptree.specs.Entries.{first_of, last_of, found, item_at, pair_of, pairs_of, with_entry, without_key, without_range, below, at_or_below, above, is_ordered};
 
-use crate::entry::Entry;
-use crate::{Iter, Steps, list};
+use crate::{Iter, cut, insert, search};
 use bytes::Bytes;
+use st_node::{Node, Steps, Tree, key_of};
 use std::alloc::{AllocError, Global};
 use std::marker::Model;
-use std::sync::Arc;
 use std::sync::ledger::Ledger;
 
 /// A sorted map from byte strings to items, each with a priority, seen as the list of its entries
 /// in the order of their keys.
 ///
-/// `share` copies nothing, and a change of one sharer is none of the others.
+/// It is a treap: of the entries between two keys the one of the highest priority is on top, and of equal priorities the
+/// one of the smallest key. How deep an entry stands is thus told by the list alone. `share` copies nothing, and a change of
+/// one sharer is none of the others: it makes the nodes on its way anew and shares the rest.
 #[derive(Drop)]
 pub struct PTree<T> {
     alloc: Global,
-    // none where there is no entry yet
-    entries: Option<Arc<Vec<Entry<T>>>>,
+    tree: Tree<T>,
 }
 
 impl<T> Model for PTree<T> {
-    ghost use Rattle.std.specs.Prelude.{ℕ, List, [], IsTrue};
-    ghost use Rattle.std.specs.Option.{option_map_or};
-    ghost use Rattle.st_ptree.specs.Entries.{is_ordered};
+    ghost use Rattle.std.specs.Prelude.{ℕ, List};
+    ghost use Rattle.st_node.specs.Shapes.{shape, entries};
+    ghost use Rattle.st_ptree.specs.Treap.{IsTreap};
 
     ghost Value = { List (List ℕ × (ℕ × T)) };
 
-    ghost view = { λ tree. option_map_or (λ entries. entries.value.items) tree.entries [] };
+    ghost view = { λ tree. entries (shape tree.tree) };
 
-    ghost invariant = { λ tree. IsTrue (is_ordered (option_map_or (λ entries. entries.value.items) tree.entries [])) };
+    ghost invariant = { λ tree. IsTreap (shape tree.tree) };
+}
+
+// The pair of a node. Its key is one step.
+fn pair<'a, T, L: Ledger>(
+    node: Option<&'a Node<T>>,
+    steps: &mut Steps<L>,
+) -> Option<(&'a Bytes, &'a T)>
+    ensures value { option_map (λ found. (found.0.now, found.1.now)) result
+        ≡ option_map pair_of (option_map (λ node. entry_of node.now) node.entry) }
+    ensures steps { steps.new ≤ steps.old + 1 }
+{
+    match node {
+        Some(node) => Some((key_of(node, steps), node.item())),
+        None => None,
+    }
 }
 
 impl<T> PTree<T> {
@@ -41,55 +58,49 @@ impl<T> PTree<T> {
     {
         PTree {
             alloc,
-            entries: None,
+            tree: Tree::Empty,
         }
     }
 
     /// The same map for another owner.
+    #[tactic(auto, using(crate::proofs::Ordered::ordered))]
     pub fn share(&self) -> Result<PTree<T>, AllocError>
         ensures same { IfOk result (λ tree. tree ≡ self.now) }
         ensures ordered { IsTrue (is_ordered self.now) }
     {
-        let entries = match &self.entries {
-            Some(entries) => Some(Arc::try_clone(entries)?),
-            None => None,
-        };
         Ok(PTree {
             alloc: self.alloc,
-            entries,
+            tree: self.tree.share()?,
         })
     }
 
-    fn entries(&self) -> &[Entry<T>]
-        ensures value { result.now ≡ self.now }
-        ensures ordered { IsTrue (is_ordered self.now) }
-    {
-        match &self.entries {
-            Some(entries) => entries.as_slice(),
-            None => &[],
-        }
-    }
-
     /// Whether there is no entry.
+    #[tactic(auto, using(crate::proofs::Ordered::ordered))]
     pub fn is_empty(&self) -> bool
         ensures value { result ≡ (length self.now == 0) }
         ensures ordered { IsTrue (is_ordered self.now) }
     {
-        self.entries().is_empty()
+        match &self.tree {
+            Tree::Empty => true,
+            Tree::Full(_) => false,
+        }
     }
 
     /// The item of a key.
+    #[tactic(auto, using(crate::proofs::Ordered::ordered))]
     pub fn get<L: Ledger>(&self, key: &[u8], steps: &mut Steps<L>) -> Option<&T>
         ensures value { option_copied result ≡ item_at self.now key.now }
+        ensures steps { steps.new ≤ steps.old + depth_at key.now self.now }
         ensures ordered { IsTrue (is_ordered self.now) }
     {
-        match list::find(self.entries(), key, steps) {
-            Some(entry) => Some(entry.item()),
+        match search::find(&self.tree, key, steps) {
+            Some(node) => Some(node.item()),
             None => None,
         }
     }
 
     /// The entry with the greatest key at or below `key`.
+    #[tactic(auto, using(crate::proofs::Ordered::ordered))]
     pub fn last_at_or_below<L: Ledger>(
         &self,
         key: &[u8],
@@ -97,27 +108,52 @@ impl<T> PTree<T> {
     ) -> Option<(&Bytes, &T)>
         ensures value { option_map (λ found. (found.0.now, found.1.now)) result
             ≡ option_map pair_of (last_of (at_or_below self.now key.now)) }
+        ensures steps { steps.new ≤ steps.old + depth_behind key.now self.now + 1 }
         ensures ordered { IsTrue (is_ordered self.now) }
     {
-        pair(list::last_at_or_below(self.entries(), key, steps))
+        pair(search::last_before(&self.tree, key, true, steps), steps)
     }
 
     /// The entry with the least key above `key`.
+    #[tactic(auto, using(crate::proofs::Ordered::ordered))]
     pub fn next_after<L: Ledger>(&self, key: &[u8], steps: &mut Steps<L>) -> Option<(&Bytes, &T)>
         ensures value { option_map (λ found. (found.0.now, found.1.now)) result
             ≡ option_map pair_of (first_of (above self.now key.now)) }
+        ensures steps { steps.new ≤ steps.old + depth_behind key.now self.now + 1 }
         ensures ordered { IsTrue (is_ordered self.now) }
     {
-        pair(list::next_after(self.entries(), key, steps))
+        pair(search::next_after(&self.tree, key, steps), steps)
     }
 
     /// The entry with the greatest key below `key`.
+    #[tactic(auto, using(crate::proofs::Ordered::ordered))]
     pub fn prev_before<L: Ledger>(&self, key: &[u8], steps: &mut Steps<L>) -> Option<(&Bytes, &T)>
         ensures value { option_map (λ found. (found.0.now, found.1.now)) result
             ≡ option_map pair_of (last_of (below self.now key.now)) }
+        ensures steps { steps.new ≤ steps.old + depth_before key.now self.now + 1 }
         ensures ordered { IsTrue (is_ordered self.now) }
     {
-        pair(list::prev_before(self.entries(), key, steps))
+        pair(search::last_before(&self.tree, key, false, steps), steps)
+    }
+
+    /// The entry with the least key. It compares nothing.
+    #[tactic(auto, using(crate::proofs::Ordered::ordered))]
+    pub fn first<L: Ledger>(&self, steps: &mut Steps<L>) -> Option<(&Bytes, &T)>
+        ensures value { option_map (λ found. (found.0.now, found.1.now)) result
+            ≡ option_map pair_of (first_of self.now) }
+        ensures steps { steps.new ≤ steps.old + 1 }
+        ensures ordered { IsTrue (is_ordered self.now) }
+    {
+        pair(search::first(&self.tree), steps)
+    }
+
+    /// The entries above a key, in the order of their keys.
+    pub fn iter_above<L: Ledger>(&self, key: &[u8], steps: &mut Steps<L>) -> Iter<'_, T>
+        ensures value { result ≡ pairs_of (above self.now key.now) }
+        ensures steps { steps.new ≤ steps.old + depth_behind key.now self.now + 1 }
+        ensures ordered { IsTrue (is_ordered self.now) }
+    {
+        Iter::above(self, key, steps)
     }
 
     /// All entries, in the order of their keys.
@@ -125,20 +161,13 @@ impl<T> PTree<T> {
         ensures value { result ≡ pairs_of self.now }
         ensures ordered { IsTrue (is_ordered self.now) }
     {
-        Iter::new(self.entries())
-    }
-
-    /// The entries above a key, in the order of their keys. It searches once.
-    pub fn iter_above<L: Ledger>(&self, key: &[u8], steps: &mut Steps<L>) -> Iter<'_, T>
-        ensures value { result ≡ pairs_of (above self.now key.now) }
-        ensures ordered { IsTrue (is_ordered self.now) }
-    {
-        Iter::new(list::split(self.entries(), key, true, steps).1)
+        Iter::all(self)
     }
 }
 
 impl<T: Drop> PTree<T> {
     /// Puts an entry in. One of that key is replaced, and its priority stays.
+    #[tactic(auto, using(crate::proofs::Ordered::ordered))]
     pub fn insert<L: Ledger>(
         &mut self,
         key: Bytes,
@@ -147,15 +176,16 @@ impl<T: Drop> PTree<T> {
         steps: &mut Steps<L>,
     ) -> Result<(), AllocError>
         ensures ok { OnOk result (self.new ≡ with_entry self.old key prio item) }
+        ensures steps { steps.new ≤ steps.old + 2 * depth_at key self.old + 1 }
         ensures ordered { IsTrue (is_ordered self.new) }
         ensures err { OnErr result (self.new ≡ self.old) }
     {
-        let changed = list::with_entry(self.alloc, self.entries(), key, prio, item, steps)?;
-        self.entries = Some(Arc::new(self.alloc, changed)?);
+        self.tree = insert::insert(self.alloc, &self.tree, key, prio, item, steps)?;
         Ok(())
     }
 
     /// Takes the entry of a key out, and tells whether there was one.
+    #[tactic(auto, using(crate::proofs::Ordered::ordered))]
     pub fn remove<L: Ledger>(
         &mut self,
         key: &[u8],
@@ -166,13 +196,13 @@ impl<T: Drop> PTree<T> {
         ensures ordered { IsTrue (is_ordered self.new) }
         ensures err { OnErr result (self.new ≡ self.old) }
     {
-        let was_there = list::find(self.entries(), key, steps).is_some();
-        let changed = list::without_key(self.alloc, self.entries(), key, steps)?;
-        self.entries = Some(Arc::new(self.alloc, changed)?);
+        let was_there = search::find(&self.tree, key, steps).is_some();
+        self.tree = cut::without(self.alloc, &self.tree, key, key, true, steps)?;
         Ok(was_there)
     }
 
     /// Takes out the entries from `begin` up to, and without, `end`.
+    #[tactic(auto, using(crate::proofs::Ordered::ordered))]
     pub fn erase<L: Ledger>(
         &mut self,
         begin: &[u8],
@@ -183,18 +213,7 @@ impl<T: Drop> PTree<T> {
         ensures ordered { IsTrue (is_ordered self.new) }
         ensures err { OnErr result (self.new ≡ self.old) }
     {
-        let changed = list::without_range(self.alloc, self.entries(), begin, end, steps)?;
-        self.entries = Some(Arc::new(self.alloc, changed)?);
+        self.tree = cut::without(self.alloc, &self.tree, begin, end, false, steps)?;
         Ok(())
-    }
-}
-
-// The key and the item of an entry.
-fn pair<T>(entry: Option<&Entry<T>>) -> Option<(&Bytes, &T)>
-    ensures { option_map (λ found. (found.0.now, found.1.now)) result ≡ option_map pair_of (option_copied entry.entry) }
-{
-    match entry {
-        Some(entry) => Some((entry.key(), entry.item())),
-        None => None,
     }
 }

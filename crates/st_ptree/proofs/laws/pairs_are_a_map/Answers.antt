@@ -1,4 +1,4 @@
-use Rattle.st_ptree.proofs.Pairs.{found-pairs_of, pairs_of-with_entry, pairs_of-where_key, is_ordered-pairs_of}
+use Rattle.st_ptree.proofs.Pairs.{found-pairs_of, is_ordered-pairs_of, pairs_of-where_key, pairs_of-with_entry}
 use Rattle.st_ptree.proofs.laws.pairs_are_a_map.Goals as goal
 
 pub returns : goal.returns

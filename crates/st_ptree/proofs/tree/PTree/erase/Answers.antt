@@ -1,14 +1,11 @@
-use Rattle.std.proofs.Common.{◌∙◌, ap, not}
-use Rattle.st_ptree.specs.Entries.{is_ordered, within}
-use Rattle.st_ptree.proofs.Changes.{is_ordered-where_key}
+use Rattle.std.proofs.Common.{◌∙◌, ap}
+use Rattle.st_node.specs.Shapes.{shape, entries}
+use Rattle.st_ptree.specs.Entries.{without_range}
+use Rattle.st_ptree.proofs.Cutting.{outside-range}
 use Rattle.st_ptree.proofs.tree.PTree.erase.Goals as goal
 
-pub returns-clause-ordered : goal.returns-clause-ordered
-returns-clause-ordered g c =
-    rw (c.in_ok-new.ensures.ok, c.in_ok-changed.ensures)
-    (is_ordered-where_key (λ k. not (within c.args.begin.now c.args.end.now k)) c.entries.result.now (ap is_ordered c.entries.ensures.value ∙ c.entries.ensures.ordered))
-
-pub invariant_of-self : goal.invariant_of-self
-invariant_of-self g c =
-    rw (c.in_ok-new.ensures.ok, c.in_ok-changed.ensures)
-    (is_ordered-where_key (λ k. not (within c.args.begin.now c.args.end.now k)) c.entries.result.now (ap is_ordered c.entries.ensures.value ∙ c.entries.ensures.ordered))
+pub returns-clause-ok : goal.returns-clause-ok
+returns-clause-ok g c =
+    c.in_ok-self-inside.ensures.value
+    ∙ outside-range c.args.begin.now c.args.end.now (entries (shape c.self.inside.tree))
+    ∙ ap (λ es. without_range es c.args.begin.now c.args.end.now) c.self.view_is

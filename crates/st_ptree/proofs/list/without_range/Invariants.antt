@@ -1,7 +1,0 @@
-use Rattle.std.proofs.Common.{◌≡◌, ◌++◌, drop}
-use Rattle.st_ptree.specs.Entries.{without_range}
-use Rattle.st_ptree.proofs.list.without_range.Given as goal
-
--- what is kept so far, and then of what is left, is what is kept of all
-abbrev pub invariant-loop-entry : goal.invariant-loop-entry
-invariant-loop-entry g l = l.out.items ++ without_range (drop l.entry-index l.entries) l.begin l.end ≡ without_range l.entries l.begin l.end

@@ -15,6 +15,7 @@ use Rattle.st_model.specs.Session.{Outcome, open_yet, over, never, outcome}
 use Rattle.st_model.specs.State.{Given, Opening, State, after_batch, assigned, first_state}
 use Rattle.st_model.specs.Trace.{commit_due, commit_version, is_at_rest, state_after, state_at}
 use Rattle.st_model.proofs.RowParts.{given_to, sets, settings}
+use Rattle.st_model.specs.Facts.{dropped, drops}
 
 -- ---- traces
 
@@ -275,3 +276,24 @@ inside_gap = refl
 
 no_gap : first_unreadable moved.pieces (record { begin = []; end = 97 ∷ [] }) ≡ None
 no_gap = refl
+
+-- ---- drops
+
+abbrev around_b : Span
+around_b = record { begin = 97 ∷ []; end = 99 ∷ [] }
+
+-- to drop a key is to take it away where it is assigned just before the move
+takes_what_is_assigned : drops (98 ∷ []) true (Release around_b ∷ []) ≡ true
+takes_what_is_assigned = refl
+
+takes_what_is_given_first : drops (98 ∷ []) false (Assign around_b ∷ Release around_b ∷ []) ≡ true
+takes_what_is_given_first = refl
+
+takes_nothing : drops (98 ∷ []) false (Release around_b ∷ []) ≡ false
+takes_nothing = refl
+
+takes_another : drops (99 ∷ []) true (Release around_b ∷ []) ≡ false
+takes_another = refl
+
+dropped_once : dropped (around_b ∷ []) (Release around_b ∷ Release around_b ∷ []) ≡ around_b ∷ []
+dropped_once = refl

@@ -113,10 +113,10 @@ write_one file is m new at bytes kept inside entries second first flag other eno
 idle : (file : ℕ) (h : History) → AreSound h.now → has_unsynced (of_file file h.now) ≡ false → after_sync file h ≡ h
 idle zero h sound clean =
     let now : with_file 0 (settled h.now.0.seen) h.now ≡ h.now = λ i. (settled-clean h.now.0 sound.0 clean i, h.now.1) in
-    λ i. record { now = now i; past = ap (λ (b : Bool). if b then h.past ++ h.now ∷ [] else h.past) clean i; made = h.made }
+    λ i. record h { now = now i; past = ap (λ (b : Bool). if b then h.past ++ h.now ∷ [] else h.past) clean i }
 idle (suc file) h sound clean =
     let now : with_file 1 (settled h.now.1.seen) h.now ≡ h.now = λ i. (h.now.0, settled-clean h.now.1 sound.1 clean i) in
-    λ i. record { now = now i; past = ap (λ (b : Bool). if b then h.past ++ h.now ∷ [] else h.past) clean i; made = h.made }
+    λ i. record h { now = now i; past = ap (λ (b : Bool). if b then h.past ++ h.now ∷ [] else h.past) clean i }
 
 pub clean_zero : (m : Inside) → IsKept m → m.zero_unsynced ≡ false → has_unsynced (of_file 0 (history_of (view_of m)).now) ≡ false
 clean_zero m kept clean =

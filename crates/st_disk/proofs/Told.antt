@@ -17,7 +17,7 @@ after_calls-push (first ∷ calls) call h = after_calls-push calls call (after_c
 
 -- the history, with so many calls
 abbrev numbered : ℕ → History → History
-numbered made h = record { now = h.now; past = h.past; made = made }
+numbered made h = record h { made = made }
 
 numbered-after_call : (call : Call) (h : History) (made made' : ℕ) → numbered made' (after_call call h) ≡ numbered made' (after_call call (numbered made h))
 numbered-after_call (write file at bytes) h made made' = refl
@@ -27,7 +27,7 @@ numbered-after_call (sync file) h made made' = refl
 pub history-push : (entries : List Entry) (entry : Entry) (first second first' second' : List ℕ) (made made' : ℕ)
     → before_entries false (entries ++ entry ∷ []) first' ≡ before_entries false entries first
     → before_entries true (entries ++ entry ∷ []) second' ≡ before_entries true entries second
-    → history_of (recorded (entries ++ entry ∷ []) first' second' made') ≡ (let h = after_call (call_of entry) (history_of (recorded entries first second made)) in record { now = h.now; past = h.past; made = made' })
+    → history_of (recorded (entries ++ entry ∷ []) first' second' made') ≡ (let h = after_call (call_of entry) (history_of (recorded entries first second made)) in record h { made = made' })
 history-push entries entry first second first' second' made made' first_same second_same =
     let start : Files = (before_entries false entries first, before_entries true entries second) in
     let start_same : (let files : Files = (before_entries false (entries ++ entry ∷ []) first', before_entries true (entries ++ entry ∷ []) second') in files) ≡ start = λ i. (first_same i, second_same i) in
@@ -92,3 +92,12 @@ reads_one m kept now is file second =
     second_file file (seen (history_of now)) second
     ∙ ap (λ (r : Recorded). (seen (history_of r)).1) (sym is)
     ∙ seen-one m.entries.items m.zero.items m.one.items m.made m.one_unsynced kept.one
+
+in_part-after_calls : (calls : List Call) (h : History) → (after_calls calls h).in_part ≡ h.in_part
+in_part-after_calls [] h = refl
+in_part-after_calls (write file at bytes ∷ calls) h = in_part-after_calls calls (after_call (write file at bytes) h)
+in_part-after_calls (sync file ∷ calls) h = in_part-after_calls calls (after_call (sync file) h)
+
+-- a disk in memory does no write in part
+pub memory-in_part : (m : Recorded) → (history_of m).in_part ≡ 0
+memory-in_part m = in_part-after_calls m.calls (fresh m.start)

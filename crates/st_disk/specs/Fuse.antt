@@ -44,6 +44,6 @@ inner_of f = f.inner
 abbrev pub fused_faults : {D : Type 0} → (D → ℕ) → Fused D → ℕ
 fused_faults fault_count f = together (fault_count f.inner) f.faults
 
--- the history of the disk below, of which the calls that passed are counted
+-- The history of the disk below, of which the calls that passed are counted, and how many may.
 abbrev pub fused_history : {D : Type 0} → (D → Option History) → Fused D → Option History
-fused_history history f = option_map (λ h. record { now = h.now; past = h.past; made = f.passed }) (history f.inner)
+fused_history history f = option_map (λ (h : History). record h { made = f.passed; passes = f.passes }) (history f.inner)

@@ -4,8 +4,8 @@ use Rattle.std.specs.Option.{option_map}
 use Rattle.std.proofs.lemmas.Option.{same_Some}
 use Rattle.st_disk.specs.History.{History, MayLeave, seen}
 
-pub counted_image : (made : ℕ) (told : Option History) → ((h : History) → told ≡ Some h → MayLeave h (seen h)) → (h : History)
-    → option_map (λ (h : History). record { now = h.now; past = h.past; made = made }) told ≡ Some h → MayLeave h (seen h)
-counted_image made None law h is = absurd (cc (is))
-counted_image made (Some old) law h is =
-    subst (λ (h : History). MayLeave h (seen h)) (same_Some (record { now = old.now; past = old.past; made = made }) h is) (law old refl)
+pub counted_image : (made : ℕ) (passes : Option ℕ) (told : Option History) → ((h : History) → told ≡ Some h → MayLeave h (seen h)) → (h : History)
+    → option_map (λ (h : History). record h { made = made; passes = passes }) told ≡ Some h → MayLeave h (seen h)
+counted_image made passes None law h is = absurd (cc (is))
+counted_image made passes (Some old) law h is =
+    subst (λ (h : History). MayLeave h (seen h)) (same_Some (record old { made = made; passes = passes }) h is) (law old refl)

@@ -29,10 +29,14 @@ pub record History : Type 0 where
   pub past : List FileStates
   -- how many calls of `write_at` and `sync` were carried out, those that changed nothing among them
   pub made : ℕ
+  -- how many of them the disk lets through in all; None: each of them
+  pub passes : Option ℕ
+  -- how many writes failed and were done in part
+  pub in_part : ℕ
 
 -- a disk with these files, all of them synced
 abbrev pub fresh : Files → History
-fresh files = record { now = (settled files.0, settled files.1); past = []; made = 0 }
+fresh files = record { now = (settled files.0, settled files.1); past = []; made = 0; passes = None; in_part = 0 }
 
 -- what a read gives of each file
 abbrev pub seen : History → Files
@@ -44,29 +48,31 @@ moment h = length h.past
 
 -- the history after a write of these bytes at a place of a file
 abbrev pub after_write : ℕ → ℕ → List ℕ → History → History
-after_write file at bytes h = record {
+after_write file at bytes h = record h {
   now = with_file file (with_bytes at bytes (of_file file h.now)) h.now;
   past = h.past ++ h.now ∷ [];
-  made = h.made;
 }
 
 -- the history after a sync of a file, which adds no moment where nothing is unsynced
 abbrev pub after_sync : ℕ → History → History
-after_sync file h = record {
+after_sync file h = record h {
   now = with_file file (settled (of_file file h.now).seen) h.now;
   past = if has_unsynced (of_file file h.now) then h.past ++ h.now ∷ [] else h.past;
-  made = h.made;
 }
 
 -- one call more was carried out
 abbrev pub counted : History → History
-counted h = record { now = h.now; past = h.past; made = risen h.made }
+counted h = record h { made = risen h.made }
+
+-- the history after a write that failed, which left these bytes at a place of a file
+abbrev pub after_part : ℕ → ℕ → List ℕ → History → History
+after_part file at bytes h = record (after_write file at bytes h) { in_part = h.in_part + 1 }
 
 -- A write that failed may be done in part: nothing was written, or some bytes at this place, no more of them.
 abbrev pub IsPartlyWritten : ℕ → ℕ → List ℕ → Option History → Option History → Type 0
 IsPartlyWritten file at bytes None new = new ≡ None
 IsPartlyWritten file at bytes (Some h) new =
-    (new ≡ Some h) ⊎ ((part : List ℕ) × (length part ≤ length bytes) × (new ≡ Some (after_write file at part h)))
+    (new ≡ Some h) ⊎ ((part : List ℕ) × (length part ≤ length bytes) × (new ≡ Some (after_part file at part h)))
 
 -- a crash may leave these files
 abbrev pub CanLeave : FileStates → Files → Type 0

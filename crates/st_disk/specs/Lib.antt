@@ -9,6 +9,7 @@ pub mod Fuse
 pub mod FusedImages
 pub mod Left
 pub mod Recorded
+pub mod Calls
 pub mod Recordings
 pub mod Told
 pub mod Entries

@@ -1,8 +1,8 @@
 -- What a crash may leave while calls of a disk follow one another.
-use Rattle.std.proofs.Common.{◌≤◌, ◌⊎◌, ⊎_elim, inl, inr, ℕ, true, false, if◌then◌else◌, List, [], ◌∷◌, ◌++◌, length, drop, Option, Some, None, subst, arith, length-append}
+use Rattle.std.proofs.Common.{◌≡◌, ◌+◌, ◌≤◌, ◌⊎◌, ⊎_elim, inl, inr, ℕ, true, false, if◌then◌else◌, List, [], ◌∷◌, ◌++◌, length, drop, Option, Some, None, subst, arith, length-append}
 use Rattle.std.proofs.lemmas.List.{drop-append-le, drop_all}
 use Rattle.st_disk.specs.FileState.{has_unsynced}
-use Rattle.st_disk.specs.History.{Files, FileStates, History, of_file, moment, CanLeave, MayLeave, MayHaveLeft, LeftSince, after_write, after_sync, counted}
+use Rattle.st_disk.specs.History.{Files, FileStates, History, of_file, moment, CanLeave, MayLeave, MayHaveLeft, LeftSince, after_write, after_part, after_sync, counted}
 
 -- A crash at any moment from the old history to the new one leaves files with this property.
 pub record LeavesOnly (old new : History) (P : Files → Type 0) : Type 0 where
@@ -11,9 +11,9 @@ pub record LeavesOnly (old new : History) (P : Files → Type 0) : Type 0 where
   -- for a run that began earlier
   pub before : (from : ℕ) (images : Files) → from ≤ moment old → LeftSince new from images → LeftSince old from images ⊎ P images
 
--- the same of a disk that may not tell its history
+-- the same of a disk that may not tell its history, and then goes on not telling
 abbrev pub ToldLeavesOnly : Option History → Option History → (Files → Type 0) → Type 0
-ToldLeavesOnly None new P = Unit {0}
+ToldLeavesOnly None new P = new ≡ None
 ToldLeavesOnly (Some old) None P = ⊥
 ToldLeavesOnly (Some old) (Some new) P = LeavesOnly old new P
 
@@ -29,35 +29,38 @@ left-push [] files images (inr none) = absurd none
 left-push (state ∷ past) files images (inl here) = inl (inl here)
 left-push (state ∷ past) files images (inr there) = ⊎_elim (λ left. inl (inr left)) (λ last. inr last) (left-push past files images there)
 
-pub goes_on-push : (h : History) (files : FileStates) (made : ℕ) → GoesOn h (record { now = files; past = h.past ++ h.now ∷ []; made = made })
-goes_on-push h files made = record {
+pub goes_on-push : (h : History) (files : FileStates) (made in_part : ℕ) → GoesOn h (record h { now = files; past = h.past ++ h.now ∷ []; made = made; in_part = in_part })
+goes_on-push h files made in_part = record {
   later = omega (arith, length-append h.past (h.now ∷ []));
   since = λ from images le left. ⊎_elim (λ now. inr now) (λ had.
       inl (⊎_elim (λ past. inr past) (λ last. inl last)
       (left-push (drop from h.past) h.now images (subst (λ (l : List FileStates). MayHaveLeft l images) (drop-append-le from h.past (h.now ∷ []) le) had)))) left;
 }
 
-pub goes_on-same : (h : History) (files : FileStates) (made : ℕ) → GoesOn h (record { now = files; past = h.past; made = made })
+pub goes_on-same : (h : History) (files : FileStates) (made : ℕ) → GoesOn h (record h { now = files; past = h.past; made = made })
 goes_on-same h files made = record {
   later = omega arith;
   since = λ from images le left. ⊎_elim (λ now. inr now) (λ had. inl (inr had)) left;
 }
 
 pub goes_on-write : (file at : ℕ) (bytes : List ℕ) (h : History) → GoesOn h (after_write file at bytes h)
-goes_on-write file at bytes h = goes_on-push h (after_write file at bytes h).now h.made
+goes_on-write file at bytes h = goes_on-push h (after_write file at bytes h).now h.made h.in_part
+
+pub goes_on-part : (file at : ℕ) (bytes : List ℕ) (h : History) → GoesOn h (after_part file at bytes h)
+goes_on-part file at bytes h = goes_on-push h (after_write file at bytes h).now h.made (h.in_part + 1)
 
 pub goes_on-write_counted : (file at : ℕ) (bytes : List ℕ) (h : History) → GoesOn h (counted (after_write file at bytes h))
-goes_on-write_counted file at bytes h = goes_on-push h (after_write file at bytes h).now (counted h).made
+goes_on-write_counted file at bytes h = goes_on-push h (after_write file at bytes h).now (counted h).made h.in_part
 
 pub goes_on-sync : (file : ℕ) (h : History) → GoesOn h (after_sync file h)
-goes_on-sync file h = elim (has_unsynced (of_file file h.now)) as (λ b. GoesOn h (record { now = (after_sync file h).now; past = if b then h.past ++ h.now ∷ [] else h.past; made = h.made })) [
-  | true ↦ goes_on-push h (after_sync file h).now h.made
+goes_on-sync file h = elim (has_unsynced (of_file file h.now)) as (λ b. GoesOn h (record h { now = (after_sync file h).now; past = if b then h.past ++ h.now ∷ [] else h.past })) [
+  | true ↦ goes_on-push h (after_sync file h).now h.made h.in_part
   | false ↦ goes_on-same h (after_sync file h).now h.made
 ]
 
 pub goes_on-sync_counted : (file : ℕ) (h : History) → GoesOn h (counted (after_sync file h))
-goes_on-sync_counted file h = elim (has_unsynced (of_file file h.now)) as (λ b. GoesOn h (record { now = (after_sync file h).now; past = if b then h.past ++ h.now ∷ [] else h.past; made = (counted h).made })) [
-  | true ↦ goes_on-push h (after_sync file h).now (counted h).made
+goes_on-sync_counted file h = elim (has_unsynced (of_file file h.now)) as (λ b. GoesOn h (record h { now = (after_sync file h).now; past = if b then h.past ++ h.now ∷ [] else h.past; made = (counted h).made })) [
+  | true ↦ goes_on-push h (after_sync file h).now (counted h).made h.in_part
   | false ↦ goes_on-same h (after_sync file h).now (counted h).made
 ]
 

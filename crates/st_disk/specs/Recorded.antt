@@ -24,4 +24,4 @@ after_calls [] h = h
 after_calls (call ∷ calls) h = after_calls calls (after_call call h)
 
 abbrev pub history_of : Recorded → History
-history_of m = let h = after_calls m.calls (fresh m.start) in record { now = h.now; past = h.past; made = m.made }
+history_of m = record (after_calls m.calls (fresh m.start)) { made = m.made }

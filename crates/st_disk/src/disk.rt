@@ -34,7 +34,7 @@ pub trait Disk {
     /// What was written and synced so far. A real disk can't tell, and then nothing is said of content.
     ghost history: { Self → Option History };
 
-    /// How often the disk has failed.
+    /// How often the disk has failed. A call that succeeds leaves it.
     ghost fault_count: { Self → ℕ };
 
     /// The length of a file, in bytes.
@@ -42,7 +42,8 @@ pub trait Disk {
         requires { file < 2 }
         ensures length { IfOk result (λ len. IfSome (history self.old) (λ h. len ≡ length (of_file file (seen h)))) }
         ensures same { history self.new ≡ history self.old }
-        ensures cause { HasCause (fault_count self.old) (fault_count self.new) (IsErr result) };
+        ensures cause { HasCause (fault_count self.old) (fault_count self.new) (IsErr result) }
+        ensures no_fault { OnOk result (fault_count self.new ≡ fault_count self.old) };
 
     /// Fills `into` with the bytes from `at`. Where the disk tells its length, they lie inside the file.
     fn read(&mut self, file: u8, at: u64, into: &mut [u8]) -> Result<(), Failed>
@@ -51,7 +52,8 @@ pub trait Disk {
         ensures bytes { OnOk result (IfSome (history self.old) (λ h.
             into.new ≡ slice_range (of_file file (seen h)) at (at + length into.old))) }
         ensures same { history self.new ≡ history self.old }
-        ensures cause { HasCause (fault_count self.old) (fault_count self.new) (IsErr result) };
+        ensures cause { HasCause (fault_count self.old) (fault_count self.new) (IsErr result) }
+        ensures no_fault { OnOk result (fault_count self.new ≡ fault_count self.old) };
 
     /// Writes over what is there, and past the end. Where the disk tells its length, the write begins at or before it.
     /// Until a sync of the file, a crash may leave any bytes in the range.
@@ -63,14 +65,16 @@ pub trait Disk {
         ensures failed { IsErrOf result DiskRefusal.Failed
             → IsPartlyWritten file at bytes.now (history self.old) (history self.new) }
         ensures no_memory { IsErrOf result DiskRefusal.NoMemory → history self.new ≡ history self.old }
-        ensures cause { HasCause (fault_count self.old) (fault_count self.new) (IsErrOf result DiskRefusal.Failed) };
+        ensures cause { HasCause (fault_count self.old) (fault_count self.new) (IsErrOf result DiskRefusal.Failed) }
+        ensures no_fault { OnOk result (fault_count self.new ≡ fault_count self.old) };
 
     /// After it, a crash leaves the file as it reads.
     fn sync(&mut self, file: u8) -> Result<(), Failed>
         requires { file < 2 }
         ensures ok { OnOk result (history self.new ≡ option_map (λ h. counted (after_sync file h)) (history self.old)) }
         ensures err { OnErr result (history self.new ≡ history self.old) }
-        ensures cause { HasCause (fault_count self.old) (fault_count self.new) (IsErr result) };
+        ensures cause { HasCause (fault_count self.old) (fault_count self.new) (IsErr result) }
+        ensures no_fault { OnOk result (fault_count self.new ≡ fault_count self.old) };
 
     /// How often the disk has failed so far.
     fn faults(&self) -> u64
@@ -89,7 +93,8 @@ pub trait CrashDisk: Disk {
             ≡ option_map (λ h. fresh (left choice h.now)) (Self.history self.old)) }
         ensures err { OnErr result (Self.history self.new ≡ Self.history self.old) }
         ensures cause { HasCause (Self.fault_count self.old) (Self.fault_count self.new)
-            (IsErrOf result DiskRefusal.Failed) };
+            (IsErrOf result DiskRefusal.Failed) }
+        ensures no_fault { OnOk result (Self.fault_count self.new ≡ Self.fault_count self.old) };
 
     /// What a restart leaves is one of the disk's images.
     ghost leaves_an_image: { (disk : Self) (h : History) (choice : ℕ) → Self.history disk ≡ Some h

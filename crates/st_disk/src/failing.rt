@@ -79,6 +79,7 @@ impl<D: Disk> Disk for Failing<D> {
         ensures length { IfOk result (λ len. IfSome (D.history (inner_of self.old)) (λ h. len ≡ length (of_file file (seen h)))) }
         ensures same { D.history (inner_of self.new) ≡ D.history (inner_of self.old) }
         ensures cause { HasCause (failing_faults D.fault_count self.old) (failing_faults D.fault_count self.new) (IsErr result) }
+        ensures no_fault { OnOk result (failing_faults D.fault_count self.new ≡ failing_faults D.fault_count self.old) }
         ensures schedule { schedule_of self.new ≡ after_call (schedule_of self.old) }
         ensures listed { IsTrue (fails_next (schedule_of self.old))
             → IsErr result × (inner_of self.new ≡ inner_of self.old) }
@@ -96,6 +97,7 @@ impl<D: Disk> Disk for Failing<D> {
             into.new ≡ slice_range (of_file file (seen h)) at (at + length into.old))) }
         ensures same { D.history (inner_of self.new) ≡ D.history (inner_of self.old) }
         ensures cause { HasCause (failing_faults D.fault_count self.old) (failing_faults D.fault_count self.new) (IsErr result) }
+        ensures no_fault { OnOk result (failing_faults D.fault_count self.new ≡ failing_faults D.fault_count self.old) }
         ensures schedule { schedule_of self.new ≡ after_call (schedule_of self.old) }
         ensures listed { IsTrue (fails_next (schedule_of self.old))
             → IsErr result × (inner_of self.new ≡ inner_of self.old) }
@@ -116,6 +118,7 @@ impl<D: Disk> Disk for Failing<D> {
         ensures no_memory { IsErrOf result DiskRefusal.NoMemory → D.history (inner_of self.new) ≡ D.history (inner_of self.old) }
         ensures cause { HasCause (failing_faults D.fault_count self.old) (failing_faults D.fault_count self.new)
             (IsErrOf result DiskRefusal.Failed) }
+        ensures no_fault { OnOk result (failing_faults D.fault_count self.new ≡ failing_faults D.fault_count self.old) }
         ensures schedule { schedule_of self.new ≡ after_call (schedule_of self.old) }
         ensures listed { IsTrue (fails_next (schedule_of self.old))
             → (result ≡ Err DiskRefusal.Failed) × (inner_of self.new ≡ inner_of self.old) }
@@ -132,6 +135,7 @@ impl<D: Disk> Disk for Failing<D> {
             ≡ option_map (λ h. counted (after_sync file h)) (D.history (inner_of self.old))) }
         ensures err { OnErr result (D.history (inner_of self.new) ≡ D.history (inner_of self.old)) }
         ensures cause { HasCause (failing_faults D.fault_count self.old) (failing_faults D.fault_count self.new) (IsErr result) }
+        ensures no_fault { OnOk result (failing_faults D.fault_count self.new ≡ failing_faults D.fault_count self.old) }
         ensures schedule { schedule_of self.new ≡ after_call (schedule_of self.old) }
         ensures listed { IsTrue (fails_next (schedule_of self.old))
             → IsErr result × (inner_of self.new ≡ inner_of self.old) }
@@ -165,6 +169,7 @@ impl<D: CrashDisk> CrashDisk for Failing<D> {
         ensures err { OnErr result (D.history (inner_of self.new) ≡ D.history (inner_of self.old)) }
         ensures cause { HasCause (failing_faults D.fault_count self.old) (failing_faults D.fault_count self.new)
             (IsErrOf result DiskRefusal.Failed) }
+        ensures no_fault { OnOk result (failing_faults D.fault_count self.new ≡ failing_faults D.fault_count self.old) }
         ensures schedule { schedule_of self.new ≡ schedule_of self.old }
     {
         self.inner.restart(choice)

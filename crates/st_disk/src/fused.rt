@@ -1,5 +1,5 @@
 // A disk over another one, which stops after some calls.
-ghost use Rattle.std.specs.Prelude.{◌≡◌, true};
+ghost use Rattle.std.specs.Prelude.{◌≡◌, true, false};
 ghost use Rattle.st_disk.specs.Spent.{is_spent};
 
 use crate::{Disk, DiskRefusal, Failed};
@@ -14,11 +14,14 @@ pub struct Fused<D> {
     is_blown: bool,
     faults: u64,
     ghost spent: { is_blown ≡ true → is_spent passes passed ≡ true },
+    ghost whole: { is_blown ≡ false → faults ≡ 0 },
 }
 
 impl<D: Disk> Fused<D> {
     ghost use Rattle.std.specs.Prelude.{◌≡◌, false, Some, IsTrue};
-    ghost use Rattle.st_disk.specs.Fuse.{fuse_of, inner_of, stops, blown};
+    ghost use Rattle.std.specs.Bool.{OnFalse};
+    ghost use Rattle.std.specs.Option.{ForSome};
+    ghost use Rattle.st_disk.specs.Fuse.{fuse_of, inner_of, stops, blown, fused_history};
 
     /// With `passes` None the fuse never blows.
     pub fn new(inner: D, passes: Option<u64>) -> Self
@@ -34,10 +37,13 @@ impl<D: Disk> Fused<D> {
         }
     }
 
-    /// Whether a call of `write_at` or `sync` came after `passes` such calls had passed.
+    /// Whether a call of `write_at` or `sync` came after `passes` such calls had passed. So many calls have passed then, no
+    /// more and no fewer. Before it no fault is the fuse's.
     pub fn blown(&self) -> bool
         ensures blown { result ≡ (fuse_of self.now).is_blown }
         ensures spent { IsTrue result → (fuse_of self.now).passes ≡ Some (fuse_of self.now).passed }
+        ensures told { IsTrue result → ForSome (fused_history D.history self.now) (λ h. h.passes ≡ Some h.made) }
+        ensures whole { OnFalse result ((fuse_of self.now).faults ≡ 0) }
     {
         self.is_blown
     }
@@ -82,7 +88,7 @@ fn is_spent(passes: Option<u64>, passed: u64) -> bool
 }
 
 impl<D: Disk> Disk for Fused<D> {
-    ghost use Rattle.std.specs.Prelude.{◌≡◌, ◌<◌, ◌≤◌, ◌+◌, Err, length, slice_range, is_ok, IfOk, OnOk, OnErr, IsErr, IsErrOf, IsTrue, IfSome};
+    ghost use Rattle.std.specs.Prelude.{◌≡◌, ◌<◌, ◌≤◌, ◌+◌, Err, false, length, slice_range, is_ok, IfOk, OnOk, OnErr, IsErr, IsErrOf, IsTrue, IfSome};
     ghost use Rattle.std.specs.Option.{ForSome, option_map};
     ghost use Rattle.st_disk.specs.History.{of_file, seen, after_write, after_sync, counted, IsPartlyWritten};
     ghost use Rattle.st_disk.specs.Cause.{HasCause};
@@ -93,13 +99,14 @@ impl<D: Disk> Disk for Fused<D> {
 
     ghost fault_count = { λ f. fused_faults D.fault_count f };
 
-    ghost reads_as_image = { λ f h is. counted_image f.passed (D.history f.inner) (D.reads_as_image f.inner) h is };
+    ghost reads_as_image = { λ f h is. counted_image f.passed f.passes (D.history f.inner) (D.reads_as_image f.inner) h is };
 
     fn len(&mut self, file: u8) -> Result<u64, Failed>
         requires { file < 2 }
         ensures length { IfOk result (λ len. IfSome (fused_history D.history self.old) (λ h. len ≡ length (of_file file (seen h)))) }
         ensures same { fused_history D.history self.new ≡ fused_history D.history self.old }
         ensures cause { HasCause (fused_faults D.fault_count self.old) (fused_faults D.fault_count self.new) (IsErr result) }
+        ensures no_fault { OnOk result (fused_faults D.fault_count self.new ≡ fused_faults D.fault_count self.old) }
         ensures fuse { fuse_of self.new ≡ after_look (fuse_of self.old) }
         ensures blown { IsTrue (fuse_of self.old).is_blown → IsErr result × (inner_of self.new ≡ inner_of self.old) }
     {
@@ -117,6 +124,7 @@ impl<D: Disk> Disk for Fused<D> {
             into.new ≡ slice_range (of_file file (seen h)) at (at + length into.old))) }
         ensures same { fused_history D.history self.new ≡ fused_history D.history self.old }
         ensures cause { HasCause (fused_faults D.fault_count self.old) (fused_faults D.fault_count self.new) (IsErr result) }
+        ensures no_fault { OnOk result (fused_faults D.fault_count self.new ≡ fused_faults D.fault_count self.old) }
         ensures fuse { fuse_of self.new ≡ after_look (fuse_of self.old) }
         ensures blown { IsTrue (fuse_of self.old).is_blown → IsErr result × (inner_of self.new ≡ inner_of self.old) }
     {
@@ -138,6 +146,7 @@ impl<D: Disk> Disk for Fused<D> {
             → fused_history D.history self.new ≡ fused_history D.history self.old }
         ensures cause { HasCause (fused_faults D.fault_count self.old) (fused_faults D.fault_count self.new)
             (IsErrOf result DiskRefusal.Failed) }
+        ensures no_fault { OnOk result (fused_faults D.fault_count self.new ≡ fused_faults D.fault_count self.old) }
         ensures fuse { fuse_of self.new ≡ after_change (is_ok result) (fuse_of self.old) }
         ensures stopped { IsTrue (stops (fuse_of self.old))
             → (result ≡ Err DiskRefusal.Failed) × (inner_of self.new ≡ inner_of self.old) }
@@ -157,6 +166,7 @@ impl<D: Disk> Disk for Fused<D> {
             ≡ option_map (λ h. counted (after_sync file h)) (fused_history D.history self.old)) }
         ensures err { OnErr result (fused_history D.history self.new ≡ fused_history D.history self.old) }
         ensures cause { HasCause (fused_faults D.fault_count self.old) (fused_faults D.fault_count self.new) (IsErr result) }
+        ensures no_fault { OnOk result (fused_faults D.fault_count self.new ≡ fused_faults D.fault_count self.old) }
         ensures fuse { fuse_of self.new ≡ after_change (is_ok result) (fuse_of self.old) }
         ensures stopped { IsTrue (stops (fuse_of self.old)) → IsErr result × (inner_of self.new ≡ inner_of self.old) }
     {
@@ -169,8 +179,11 @@ impl<D: Disk> Disk for Fused<D> {
         Ok(())
     }
 
-    /// The faults of the disk below and those of the fuse, together.
-    fn faults(&self) -> u64 {
+    /// The faults of the disk below and those of the fuse, together. A fuse that isn't blown has none.
+    fn faults(&self) -> u64
+        ensures all { result ≡ fused_faults D.fault_count self.now }
+        ensures below { (fuse_of self.now).is_blown ≡ false → result ≡ D.fault_count (inner_of self.now) }
+    {
         self.inner.faults().saturating_add(self.faults)
     }
 }

@@ -13,7 +13,8 @@ pub use failing::Failing;
 pub use fused::Fused;
 pub use laws::{
     a_sync_goes_on, a_synced_file_has_one_image, a_write_goes_on, a_write_tears_in_its_range,
-    reads_as_an_image, restarts_as_an_image, unwritten_bytes_stay,
+    calls_are_counted, calls_are_whole, calls_join, calls_stop, reads_as_an_image,
+    restarts_as_an_image, unwritten_bytes_stay,
 };
 pub use memory::Memory;
 

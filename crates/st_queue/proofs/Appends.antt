@@ -173,7 +173,7 @@ module _ (h : History) (place : Place) (settled : IsSettled h (Some place)) (pay
   last = appended place payload h
 
   last-seen : seen last ≡ with_file place.file opened files
-  unfolding appended
+  unfolding appended after_put
   last-seen =
       seen-put place.file place.gate (1 ∷ []) middle
       ∙ (λ i. with_file place.file (overwritten place.gate (1 ∷ []) (middle-bytes i)) (middle-seen i))
@@ -192,7 +192,7 @@ module _ (h : History) (place : Place) (settled : IsSettled h (Some place)) (pay
   last-frames = ap frames_of last-seen ∙ reads-more (with_file place.file opened files) opened refl opened-same opened-inside opened-frames
 
   pub last-settled : IsSettled last (Some (behind_frame place payload))
-  unfolding appended
+  unfolding appended after_put
   last-settled =
       let gate_now : place.gate ≡ 28 + frames_size known.older = λ i. (place-now i).gate in
       let next_now : place.next ≡ first_number bytes + length known.older = λ i. (place-now i).next in
@@ -218,7 +218,7 @@ module _ (place : Place) (payload : List ℕ) (small : length payload < 2 ^ 32) 
   first_put told = option_map (after_put place.file (place.gate + 1) (frame_bytes place.next payload)) told
 
   pub append-none : (told new : Option History) → new ≡ told → Settled told → ToldLeavesOnly told new (HasFramesOrMore (frame_of place payload) told)
-  append-none None new same settled = tt
+  append-none None new same settled = same
   append-none (Some h) new same settled =
       subst (λ (n : Option History). ToldLeavesOnly (Some h) n (HasFramesOrMore (frame_of place payload) (Some h))) (sym same)
       (started h (HasFramesOrMore (frame_of place payload) (Some h)) (λ images may. inl (ap frames_of (image-synced h (settled h refl).synced images may))))
@@ -228,13 +228,13 @@ module _ (place : Place) (payload : List ℕ) (small : length payload < 2 ^ 32) 
       weaker h new (LeavesTorn place.file (place.gate + 1) size (Some h)) (HasFramesOrMore (frame_of place payload) (Some h)) leaves (λ images torn. inl (body-reads h place settled payload small fits listed size images torn))
 
   pub append-first : (told new : Option History) → ToldLeavesOnly told new (LeavesTorn place.file (place.gate + 1) size told) → Settled told → ToldLeavesOnly told new (HasFramesOrMore (frame_of place payload) told)
-  append-first None new leaves settled = tt
+  append-first None new leaves settled = leaves
   append-first (Some h) None leaves settled = leaves
   append-first (Some h) (Some new) leaves settled = first h new (settled h refl) leaves
 
   pub append-both : (told mid new : Option History) → mid ≡ first_put told → ToldLeavesOnly told mid (LeavesTorn place.file (place.gate + 1) size told) → ToldLeavesOnly mid new (LeavesTorn place.file place.gate 1 mid) → Settled told
       → ToldLeavesOnly told new (HasFramesOrMore (frame_of place payload) told)
-  append-both None mid new is leaves then settled = tt
+  append-both None mid new is leaves then settled = subst (λ (m : Option History). ToldLeavesOnly m new (LeavesTorn place.file place.gate 1 m)) is then
   append-both (Some h) mid new is leaves then settled =
       both new (subst (λ (m : Option History). ToldLeavesOnly (Some h) m (LeavesTorn place.file (place.gate + 1) size (Some h))) is leaves) (subst (λ (m : Option History). ToldLeavesOnly m new (LeavesTorn place.file place.gate 1 m)) is then)
     where
@@ -289,7 +289,7 @@ module _ (place : Place) (payload : List ℕ) (small : length payload < 2 ^ 32) 
   pub ends-both : (told mid new : Option History) (result : Result (Unit {0}) QueueRefusal) → mid ≡ first_put told → ToldLeavesOnly told mid (LeavesTorn place.file (place.gate + 1) size told)
       → OnOk result (new ≡ option_map (after_put place.file place.gate (1 ∷ [])) mid) → (IsErrOf result NoMemory → new ≡ mid) → ToldLeavesOnly mid new (LeavesTorn place.file place.gate 1 mid) → Settled told
       → Appends told new place payload result
-  unfolding appended
+  unfolding appended after_put
   ends-both told mid new (Ok done) is leaves ok no_memory then settled =
       let whole : new ≡ option_map (appended place payload) told = ok ∙ ap (λ (m : Option History). option_map (after_put place.file place.gate (1 ∷ [])) m) is ∙ twice told in
       let now = append-ok told new whole settled in

@@ -4,6 +4,7 @@ use Rattle.std.specs.Option.{option_map, ForSome}
 use Rattle.std.proofs.lemmas.Option.{same_Some}
 use Rattle.std.proofs.lemmas.Bool.{false≢true}
 use Rattle.st_disk.specs.History.{History, Files, of_file, with_file, seen}
+use Rattle.st_disk.specs.Calls.{made-append}
 use Rattle.st_disk.specs.Moments.{ToldLeavesOnly, joined, started, weaker}
 use Rattle.st_queue.specs.Due.{Knows, are_discarded, due_at, due_of, has_reached, is_released, last_behind, live_frames, older_beside, older_frames}
 use Rattle.st_queue.specs.Frames.{is_live}
@@ -12,7 +13,7 @@ use Rattle.st_queue.specs.Place.{current, current_file, is_unshut, next_file, ne
 use Rattle.st_queue.specs.Prepared.{IsPrepared, ToldPrepared, ToldReleased, ToldUnshut}
 use Rattle.st_queue.specs.Queue.{Holds, IsKept, IsReady, UnlessFailed, after_refusal, broken_by, is_due, is_due_at, with_broken, with_current, with_entered, with_prepared}
 use Rattle.st_queue.specs.Reading.{Fits, IsReading}
-use Rattle.st_queue.specs.Writing.{after_put, appended, frame_bytes, behind_frame, beside, entered, header_bytes, recycled, shut_first, frames_now, frames_of, frame_of, told_frames, IsSettled, ToldSettled, HasFrames, HasFramesLess, HasFramesOrMore, HasLess, ToldLess, Appends}
+use Rattle.st_queue.specs.Writing.{after_put, appended, frame_bytes, behind_frame, beside, entered, header_bytes, head_calls, recycled, shut_calls, shut_first, frames_now, frames_of, frame_of, told_frames, IsSettled, ToldSettled, HasFrames, HasFramesLess, HasFramesOrMore, HasLess, ToldLess, Appends}
 use Rattle.st_queue.proofs.Alone.{alone-older, idle, is-current}
 use Rattle.st_queue.proofs.Appends.{ok-of, settled-told}
 use Rattle.st_queue.proofs.Current.{Reading}
@@ -40,7 +41,7 @@ full-appends place payload told result long limit is settled = subst (λ (r : Re
 })
   where
     leaves : (told : Option History) → ForSome told (λ h. IsSettled h (Some place)) → ToldLeavesOnly told told (HasFramesOrMore (frame_of place payload) told)
-    leaves None settled = tt
+    leaves None settled = refl
     leaves (Some h) settled = started h (HasFramesOrMore (frame_of place payload) (Some h)) (λ images may. inl (ap frames_of (image-synced h (settled h refl).synced images may)))
 
 abbrev pub Known : Option History → Bool × Bool → Option ℕ → Type 0
@@ -189,7 +190,7 @@ beside-known told new place place' unshut older file_is was is same known n at =
     known-grown before.0 n place place' unshut older file_is (was before.0 before.1).ends (is n at).ends (beside-same place.file told new before.0 n same before.1 at) (known before.0 before.1)
 
 pub beside-appended : (place : Place) (payload : List ℕ) (told : Option History) → beside place.file (option_map (appended place payload) told) ≡ beside place.file told
-unfolding appended
+unfolding appended after_put
 beside-appended place payload None = refl
 beside-appended place payload (Some h) =
     beside-put place.file place.gate (1 ∷ []) (Some (after_put place.file (place.gate + 1) (frame_bytes place.next payload) h))
@@ -254,17 +255,17 @@ holds-unprepared told state holds = record {
 -- the next file is shut, and then its header is written
 pub recycled-both : (file made first : ℕ) (told mid new : Option History) (result : Result (Unit {0}) QueueRefusal) → mid ≡ option_map (shut_first file) told → OnOk result (new ≡ option_map (after_put file 1 (header_bytes made first)) mid)
     → OnOk result (new ≡ option_map (recycled file made first) told)
-unfolding recycled
+unfolding recycled shut_first after_put
 recycled-both file made first told mid new (Err refusal) one two = tt
 recycled-both file made first told mid new (Ok u) one two = two ∙ ap (λ (m : Option History). option_map (after_put file 1 (header_bytes made first)) m) one ∙ twice told
   where
     twice : (told : Option History) → option_map (after_put file 1 (header_bytes made first)) (option_map (shut_first file) told) ≡ option_map (recycled file made first) told
     twice None = refl
-    twice (Some h) = refl
+    twice (Some h) = ap (λ (n : History). Some n) (sym (made-append (shut_calls file (seen h)) (head_calls file made first) h))
 
 -- the frames that are left, and then the same ones
 pub less-then : (from : ℕ) (told mid new : Option History) → ToldLeavesOnly told mid (HasFramesLess from told) → ToldLess from told mid → ToldLeavesOnly mid new (HasFrames mid) → ToldLeavesOnly told new (HasFramesLess from told)
-less-then from None mid new first less second = tt
+less-then from None mid new first less second = subst (λ (m : Option History). ToldLeavesOnly m new (HasFrames m)) first second
 less-then from (Some h) None new first less second = absurd first
 less-then from (Some h) (Some m) None first less second = second
 less-then from (Some h) (Some m) (Some n) first less second =
@@ -325,17 +326,3 @@ prepared-place told state holds unbroken some = by_option state.prepared refl so
     by_option : (o : Option Place) → state.prepared ≡ o → IsSome o → (state.prepared ≡ Some (next_place state.current)) × ToldPrepared told (next_place state.current)
     by_option None is some = absurd (cc (some))
     by_option (Some place) is some = let ready = holds.ready unbroken place is in (is ∙ ap (λ (p : Place). Some p) ready.next, subst (λ (p : Place). ToldPrepared told p) ready.next ready.prepared)
-
--- A disk that doesn't tell its history doesn't after a call, unless that call failed.
-pub untold-refused : (refusal : QueueRefusal) (told new : Option History) (state : State) → IsOutside refusal → (refusal ≡ NoMemory → new ≡ told) → told ≡ None → (after_refusal refusal state).broken ≡ None → new ≡ None
-untold-refused (DiskFault faults) told new state outside same none unbroken = absurd (cc (unbroken))
-untold-refused NoMemory told new state outside same none unbroken = same refl ∙ none
-untold-refused (Damaged file at) told new state outside same none unbroken = absurd outside
-untold-refused (Broken faults) told new state outside same none unbroken = absurd outside
-untold-refused (Full length limit) told new state outside same none unbroken = absurd outside
-
-pub untold-after : (result : Result (Unit {0}) QueueRefusal) (f : History → History) (told new : Option History) (state now : State) → OnOk result (new ≡ option_map f told) → (IsErrOf result NoMemory → new ≡ told) → IfErr result (λ refusal. now ≡ after_refusal refusal state)
-    → IfErr result IsOutside → told ≡ None → now.broken ≡ None → new ≡ None
-untold-after (Ok u) f told new state now calls same err outside none unbroken = calls ∙ ap (option_map f) none
-untold-after (Err refusal) f told new state now calls same err outside none unbroken =
-    untold-refused refusal told new state outside (λ e. same (ap (λ (r : QueueRefusal). Err r) e)) none (sym (ap (λ (s : State). s.broken) err) ∙ unbroken)

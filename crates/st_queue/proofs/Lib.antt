@@ -13,3 +13,4 @@ mod Rising
 mod Turns
 mod Recycles
 mod Held
+mod Stops

@@ -4,8 +4,8 @@ use Rattle.std.specs.Option.{option_map, ForSome}
 use Rattle.std.proofs.lemmas.List.{drop-drop}
 use Rattle.st_disk.specs.FileState.{FileState, IsImage, settled, with_bytes, overwritten}
 use Rattle.st_disk.specs.Images.{IsTorn, image-settled, image-with_bytes, image-seen, sound-with_bytes, sound-settled}
-use Rattle.st_disk.specs.History.{History, Files, MayLeave, of_file, with_file, seen, after_write, after_sync, counted, IsPartlyWritten}
-use Rattle.st_disk.specs.Moments.{LeavesOnly, ToldLeavesOnly, started, goes_on, goes_on-write, goes_on-write_counted, goes_on-sync_counted}
+use Rattle.st_disk.specs.History.{History, Files, MayLeave, of_file, with_file, seen, after_write, after_sync, after_part, counted, IsPartlyWritten}
+use Rattle.st_disk.specs.Moments.{LeavesOnly, ToldLeavesOnly, started, goes_on, goes_on-part, goes_on-write_counted, goes_on-sync_counted}
 use Rattle.st_queue.specs.Place.{other_file}
 use Rattle.st_queue.specs.Writing.{IsSynced, IsTornAt, LeavesTorn, after_put, beside}
 
@@ -105,17 +105,17 @@ module _ (file at : ℕ) (bytes : List ℕ) where
   begun h synced inside = started h (Torn h) (torn-here h synced inside)
 
   pub put-none : (told new : Option History) → new ≡ told → Synced told → Inside told → ToldLeavesOnly told new (LeavesTorn file at (length bytes) told)
-  put-none None new same synced inside = tt
+  put-none None new same synced inside = same
   put-none (Some h) new same synced inside =
       subst (λ (n : Option History). ToldLeavesOnly (Some h) n (Torn h)) (sym same) (begun h (synced h refl) (inside h refl))
 
   pub put-failed : (told new : Option History) → IsPartlyWritten file at bytes told new → Synced told → Inside told → ToldLeavesOnly told new (LeavesTorn file at (length bytes) told)
-  put-failed None new partly synced inside = tt
+  put-failed None new partly synced inside = partly
   put-failed (Some h) new partly synced inside =
       ⊎_elim
       (λ same. put-none (Some h) new same synced inside)
       (λ written. subst (λ (n : Option History). ToldLeavesOnly (Some h) n (Torn h)) (sym written.2)
-      (goes_on h h (after_write file at written.0 h) (Torn h) (begun h (synced h refl) (inside h refl)) (goes_on-write file at written.0 h) (torn-write written.0 h (synced h refl) (inside h refl) written.1)))
+      (goes_on h h (after_part file at written.0 h) (Torn h) (begun h (synced h refl) (inside h refl)) (goes_on-part file at written.0 h) (torn-write written.0 h (synced h refl) (inside h refl) written.1)))
       partly
 
   only-written : (h : History) → IsSynced h → at ≤ length (of_file file (seen h)) → LeavesOnly h (counted (after_write file at bytes h)) (Torn h)
@@ -123,14 +123,15 @@ module _ (file at : ℕ) (bytes : List ℕ) where
       goes_on h h (counted (after_write file at bytes h)) (Torn h) (begun h synced inside) (goes_on-write_counted file at bytes h) (torn-write bytes h synced inside (omega arith))
 
   pub put-written : (told new : Option History) → new ≡ option_map (λ h. counted (after_write file at bytes h)) told → Synced told → Inside told → ToldLeavesOnly told new (LeavesTorn file at (length bytes) told)
-  put-written None new is synced inside = tt
+  put-written None new is synced inside = is
   put-written (Some h) new is synced inside =
       subst (λ (n : Option History). ToldLeavesOnly (Some h) n (Torn h)) (sym is) (only-written h (synced h refl) (inside h refl))
 
   pub put-both : (told mid new : Option History) → mid ≡ option_map (λ h. counted (after_write file at bytes h)) told → new ≡ option_map (λ h. counted (after_sync file h)) mid → Synced told → Inside told
       → (new ≡ option_map (after_put file at bytes) told) × ToldLeavesOnly told new (LeavesTorn file at (length bytes) told)
   unfolding after_put
-  put-both None mid new is is' synced inside = (is' ∙ (λ i. option_map (λ h. counted (after_sync file h)) (is i)), tt)
+  put-both None mid new is is' synced inside =
+      let none : new ≡ None = is' ∙ (λ i. option_map (λ h. counted (after_sync file h)) (is i)) in (none, none)
   put-both (Some h) mid new is is' synced inside =
       let written = counted (after_write file at bytes h) in
       let whole : new ≡ Some (after_put file at bytes h) = is' ∙ (λ i. option_map (λ h. counted (after_sync file h)) (is i)) in (

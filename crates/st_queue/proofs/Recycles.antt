@@ -5,11 +5,12 @@ use Rattle.std.proofs.lemmas.Bool.Decides.{nat_tests}
 use Rattle.std.proofs.lemmas.Option.{same_Some}
 use Rattle.st_disk.specs.Images.{IsTorn}
 use Rattle.st_disk.specs.History.{History, Files, of_file, with_file, seen}
+use Rattle.st_disk.specs.Calls.{made}
 use Rattle.st_disk.specs.Moments.{ToldLeavesOnly, started, weaker}
 use Rattle.st_queue.specs.Place.{is_unshut, next_file, next_generation, next_number, next_place, spent}
 use Rattle.st_queue.specs.Prepared.{IsPrepared, ToldPrepared, ToldUnshut, ToldReleased, Shuts, Heads, Enters}
 use Rattle.st_queue.specs.Reading.{Fits}
-use Rattle.st_queue.specs.Writing.{after_put, entered, header_bytes, shut_first, frames_now, frames_of, told_frames, IsSettled, ToldSettled, ToldLess, LeavesTorn, HasFrames, HasFramesLess, HasLess}
+use Rattle.st_queue.specs.Writing.{put_calls, after_put, entered, header_bytes, shut_first, frames_now, frames_of, told_frames, IsSettled, ToldSettled, ToldLess, LeavesTorn, HasFrames, HasFramesLess, HasLess}
 use Rattle.st_queue.proofs.Appends.{told-settled}
 use Rattle.st_queue.proofs.Current.{Reading}
 use Rattle.st_queue.proofs.Puts.{image-synced}
@@ -24,20 +25,20 @@ Settled told place = ForSome told (λ h. IsSettled h place)
 -- each torn write leaves files with a property
 pub torn-weaker : (file at count : ℕ) (told new : Option History) (P : History → Files → Type 0) → ToldLeavesOnly told new (LeavesTorn file at count told)
     → ForSome told (λ h. (image : List ℕ) → IsTorn at count (of_file file (seen h)) image → P h (with_file file image (seen h))) → ToldLeavesOnly told new (λ images. IfSome told (λ h. P h images))
-torn-weaker file at count None new P leaves keeps = tt
+torn-weaker file at count None new P leaves keeps = leaves
 torn-weaker file at count (Some h) None P leaves keeps = leaves
 torn-weaker file at count (Some h) (Some new) P leaves keeps =
     weaker h new (LeavesTorn file at count (Some h)) (P h) leaves (λ images torn. subst (λ (f : Files). P h f) (sym torn.other) (keeps h refl (of_file file images) torn.torn))
 
 -- nothing was done
 pub leaves-all : (place : Option Place) (told new : Option History) → new ≡ told → Settled told place → ToldLeavesOnly told new (HasFrames told)
-leaves-all place None new same settled = tt
+leaves-all place None new same settled = same
 leaves-all place (Some h) new same settled =
     subst (λ (n : Option History). ToldLeavesOnly (Some h) n (HasFrames (Some h))) (sym same) (started h (HasFrames (Some h)) (λ images may. ap frames_of (image-synced h (settled h refl).synced images may)))
 
 -- the frames, less none
 pub less-none : (from : ℕ) (told new : Option History) → ToldLeavesOnly told new (HasFrames told) → ToldLeavesOnly told new (HasFramesLess from told)
-less-none from None new leaves = tt
+less-none from None new leaves = leaves
 less-none from (Some h) None leaves = leaves
 less-none from (Some h) (Some new) leaves =
     weaker h new (HasFrames (Some h)) (HasFramesLess from (Some h)) leaves (λ images same. subst (λ (r : Reading). HasLess from (frames_now h) r) (sym same) (less-all from (frames_now h)))
@@ -49,14 +50,14 @@ known-of P step (Some old) new is known h e = subst P (same_Some (step old) h (s
 
 -- the next file was shut before, or is shut now
 shut-now : (file : ℕ) (flag : Bool) (told : Option History) → flag ≡ true → ToldUnshut file flag told → option_map (after_put file 0 (0 ∷ [])) told ≡ option_map (shut_first file) told
-unfolding shut_first
+unfolding shut_first after_put
 shut-now file flag None flag_is unshut = refl
-shut-now file flag (Some h) flag_is unshut = ap (λ (b : Bool). Some (if b then after_put file 0 (0 ∷ []) h else h)) (sym (sym (unshut h refl) ∙ flag_is))
+shut-now file flag (Some h) flag_is unshut = ap (λ (b : Bool). Some (made (if b then put_calls file 0 (0 ∷ []) else []) h)) (sym (sym (unshut h refl) ∙ flag_is))
 
 shut-before : (file : ℕ) (flag : Bool) (told : Option History) → flag ≡ false → ToldUnshut file flag told → told ≡ option_map (shut_first file) told
 unfolding shut_first
 shut-before file flag None flag_is unshut = refl
-shut-before file flag (Some h) flag_is unshut = ap (λ (b : Bool). Some (if b then after_put file 0 (0 ∷ []) h else h)) (sym (sym (unshut h refl) ∙ flag_is))
+shut-before file flag (Some h) flag_is unshut = ap (λ (b : Bool). Some (made (if b then put_calls file 0 (0 ∷ []) else []) h)) (sym (sym (unshut h refl) ∙ flag_is))
 
 -- a file may have both numbers where none is spent
 pub unspent : (end : Option Place) → spent end ≡ None → (next_generation end ≤ 2 ^ 62) × (next_number end ≤ 2 ^ 62)
@@ -187,7 +188,7 @@ module _ (end : Option Place) (told : Option History) (settled : Settled told en
 
     pub enters : (new : Option History) (result : Result (Unit {0}) QueueRefusal) → OnOk result (new ≡ option_map (after_put file 0 (1 ∷ [])) told) → (IsErrOf result NoMemory → new ≡ told)
         → ToldLeavesOnly told new (LeavesTorn file 0 1 told) → Enters told new (next_place end) result
-    unfolding entered
+    unfolding entered after_put
     enters new (Ok u) ok same leaves = record {
       calls = ok;
       settled = enter-done new ok;

@@ -24,12 +24,12 @@ Law told = (h : History) → told ≡ Some h → MayLeave h (seen h)
 
 -- nothing was done
 pub leaves-none : (told new : Option History) → new ≡ told → ToldLeavesOnly told new (IsImageOf told)
-leaves-none None new same = tt
+leaves-none None new same = same
 leaves-none (Some h) new same = subst (λ (n : Option History). ToldLeavesOnly (Some h) n (IsImageOf (Some h))) (sym same) (started h (MayLeave h) (λ images may. may))
 
 -- one sync
 pub leaves-one : (told new : Option History) → new ≡ option_map (λ h. counted (after_sync 0 h)) told → Law told → ToldLeavesOnly told new (IsImageOf told)
-leaves-one None new is law = tt
+leaves-one None new is law = is
 leaves-one (Some h) new is law =
     subst (λ (n : Option History). ToldLeavesOnly (Some h) n (IsImageOf (Some h))) (sym is)
     (goes_on h h (counted (after_sync 0 h)) (MayLeave h) (started h (MayLeave h) (λ images may. may)) (goes_on-sync_counted 0 h) (synced_image 0 h (law h refl)))
@@ -37,7 +37,7 @@ leaves-one (Some h) new is law =
 -- both
 pub leaves-both : (told mid new : Option History) → mid ≡ option_map (λ h. counted (after_sync 0 h)) told → new ≡ option_map (λ h. counted (after_sync 1 h)) mid → Law told → Law mid
     → (new ≡ option_map after_both told) × ToldLeavesOnly told new (IsImageOf told)
-leaves-both None mid new is is' law law' = (is' ∙ (λ i. option_map (λ h. counted (after_sync 1 h)) (is i)), tt)
+leaves-both None mid new is is' law law' = let none : new ≡ None = is' ∙ (λ i. option_map (λ h. counted (after_sync 1 h)) (is i)) in (none, none)
 leaves-both (Some h) mid new is is' law law' =
     let middle = counted (after_sync 0 h) in
     let whole : new ≡ Some (after_both h) = is' ∙ (λ i. option_map (λ h. counted (after_sync 1 h)) (is i)) in

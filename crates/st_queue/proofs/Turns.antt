@@ -7,11 +7,12 @@ use borrow.Author.Tests.{ltb-true}
 use Rattle.st_disk.specs.FileState.{overwritten}
 use Rattle.st_disk.specs.Images.{IsTorn}
 use Rattle.st_disk.specs.History.{History, Files, of_file, with_file, seen}
+use Rattle.st_disk.specs.Calls.{made}
 use Rattle.st_queue.specs.Due.{Knows, are_discarded, is_released, last_behind, older_frames}
 use Rattle.st_queue.specs.Frames.{generation, first_number, is_live, is_open, file_frames}
 use Rattle.st_queue.specs.Place.{current, end_of, frames_size, is_unshut, next_file, next_generation, next_number, next_place, other_file}
 use Rattle.st_queue.specs.Prepared.{IsPrepared}
-use Rattle.st_queue.specs.Writing.{after_put, entered, header_bytes, shut_first, frames_now, frames_of, HasLess, IsSettled}
+use Rattle.st_queue.specs.Writing.{put_calls, after_put, entered, header_bytes, shut_first, frames_now, frames_of, HasLess, IsSettled}
 use Rattle.st_queue.proofs.Alone.{alone-frames, alone-current, alone-older, idle, is-current, kept-current, kept-frames, of-with, shut-current, shut-frames, shut-older}
 use Rattle.st_queue.proofs.Appends.{ok-of}
 use Rattle.st_queue.proofs.Current.{Reading}
@@ -160,10 +161,10 @@ module _ (h : History) (current_end : Option Place) (settled : IsSettled h curre
     pub knows : Knows files unshut older → Knows (seen now) (with_file file false unshut) None
 
   pub shut-whole : (unshut : Bool × Bool) (older : Option ℕ) → IsShut (shut_first file h) unshut older
-  unfolding shut_first
+  unfolding shut_first after_put
   shut-whole unshut older = by_flag (is_unshut bytes) refl
     where
-      by_flag : (b : Bool) → is_unshut bytes ≡ b → IsShut (if b then after_put file 0 (0 ∷ []) h else h) unshut older
+      by_flag : (b : Bool) → is_unshut bytes ≡ b → IsShut (made (if b then put_calls file 0 (0 ∷ []) else []) h) unshut older
       by_flag true was =
           let done = shut-done bytes in
           let now = seen-put file 0 (0 ∷ []) h in
@@ -308,14 +309,14 @@ module _ (h : History) (current_end : Option Place) (settled : IsSettled h curre
     long-now = omega (arith, length-drop 1 bytes, ready.long)
 
     now-seen : seen (entered file h) ≡ with_file file open_now files
-    unfolding entered
+    unfolding entered after_put
     now-seen = seen-put file 0 (1 ∷ []) h
 
     pub enter-frames : frames_now (entered file h) ≡ frames_now h
     enter-frames = ap frames_of now-seen ∙ (opened-behind open_now refl long-now refl).frames_are ∙ sym some.1
 
     pub enter-settled : IsSettled (entered file h) (Some place)
-    unfolding entered
+    unfolding entered after_put
     enter-settled = record {
       synced = synced-put file 0 (1 ∷ []) h settled.synced;
       readable = subst IsOk (sym enter-frames) settled.readable;

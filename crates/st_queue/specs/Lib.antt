@@ -8,4 +8,5 @@ pub mod Reading
 pub mod Mounting
 pub use Rattle.st_disk.specs.History
 pub use Rattle.st_disk.specs.Moments
+pub use Rattle.st_disk.specs.Calls
 pub use Rattle.st_ops.specs.Reading as OpsReading

@@ -1,6 +1,9 @@
 -- What a queue asks of its disk when it is mounted.
-use Rattle.std.specs.Prelude.{◌≡◌, ◌≤◌, ℕ, Option, Result, IfSome, IsErrOf}
-use Rattle.st_disk.specs.History.{History, Files, MayLeave, after_sync, counted, risen}
+use Rattle.std.specs.Prelude.{◌≡◌, ◌≤◌, ◌⊎◌, ℕ, List, [], ◌∷◌, Option, Result, IfSome, IsErrOf}
+use Rattle.std.specs.Option.{option_map}
+use Rattle.st_disk.specs.History.{History, Files, MayLeave, risen}
+use Rattle.st_disk.specs.Recorded.{Call, sync}
+use Rattle.st_disk.specs.Calls.{made, ToldStoppedIn}
 use Rattle.st_queue.specs.declared.frame.QueueRefusal.{QueueRefusal}
 use Rattle.st_queue.specs.declared.frame.QueueRefusal.TheVariants.{Damaged, NoMemory, DiskFault, Broken, Full}
 
@@ -8,9 +11,17 @@ use Rattle.st_queue.specs.declared.frame.QueueRefusal.TheVariants.{Damaged, NoMe
 abbrev pub IsImageOf : Option History → Files → Type 0
 IsImageOf told images = IfSome told (λ h. MayLeave h images)
 
--- the history after a sync of file 0 and one of file 1
+-- a sync of file 0 and one of file 1
+abbrev pub mount_calls : List Call
+mount_calls = sync 0 ∷ sync 1 ∷ []
+
+-- the history after both
 abbrev pub after_both : History → History
-after_both h = counted (after_sync 1 (counted (after_sync 0 h)))
+after_both h = made mount_calls h
+
+-- Both syncs were carried out, or they were cut short.
+abbrev pub IsSyncedOrStopped : Option History → Option History → Type 0
+IsSyncedOrStopped told new = (new ≡ option_map after_both told) ⊎ ToldStoppedIn (λ _. mount_calls) told new
 
 -- A fault carries the disk's count, which rose in the call, or stands at its end.
 pub record HasFault {T : Type 0} (before now : ℕ) (result : Result T QueueRefusal) : Type 0 where

@@ -3,9 +3,11 @@ use Rattle.std.specs.Prelude.{◌≡◌, ◌<◌, ◌⊎◌, ◌+◌, ℕ, if◌
 use Rattle.std.specs.Option.{option_map}
 use Rattle.st_num.specs.Number.{little_bytes}
 use Rattle.st_disk.specs.FileState.{settled}
-use Rattle.st_disk.specs.History.{History, Files, of_file, with_file, seen, after_write, after_sync, counted}
+use Rattle.st_disk.specs.History.{History, Files, of_file, with_file, seen}
 use Rattle.st_disk.specs.Images.{IsTorn}
 use Rattle.st_disk.specs.Moments.{ToldLeavesOnly}
+use Rattle.st_disk.specs.Recorded.{Call, write, sync}
+use Rattle.st_disk.specs.Calls.{made}
 use Rattle.st_queue.specs.Frames.{Damage, frames, mark}
 use Rattle.st_queue.specs.Place.{current, is_unshut, other_file}
 use Rattle.st_queue.specs.declared.frame.Frame.{Frame}
@@ -22,27 +24,47 @@ unfoldable pub header_bytes : ℕ → ℕ → List ℕ
 header_bytes generation first = mark ++ little_bytes 8 generation ++ little_bytes 8 first ++ 0 ∷ []
 
 -- one write to a file, and a sync of it
+abbrev pub put_calls : ℕ → ℕ → List ℕ → List Call
+put_calls file at bytes = write file at bytes ∷ sync file ∷ []
+
 unfoldable pub after_put : ℕ → ℕ → List ℕ → History → History
-after_put file at bytes h = counted (after_sync file (counted (after_write file at bytes h)))
+after_put file at bytes h = made (put_calls file at bytes) h
 
 -- what the other file reads as
 abbrev pub beside : ℕ → Option History → Option (List ℕ)
 beside file told = option_map (λ h. of_file (other_file file) (seen h)) told
 
 -- The frame is on the disk before its gate is opened.
+abbrev pub append_calls : Place → List ℕ → List Call
+append_calls place payload =
+    put_calls place.file (place.gate + 1) (frame_bytes place.next payload) ++ put_calls place.file place.gate (1 ∷ [])
+
 unfoldable pub appended : Place → List ℕ → History → History
-appended place payload h =
-    after_put place.file place.gate (1 ∷ []) (after_put place.file (place.gate + 1) (frame_bytes place.next payload) h)
+appended place payload h = made (append_calls place payload) h
+
+-- a file is shut where it has no byte, or an open gate
+abbrev pub shut_calls : ℕ → Files → List Call
+shut_calls file files = if is_unshut (of_file file files) then put_calls file 0 (0 ∷ []) else []
+
+unfoldable pub shut_first : ℕ → History → History
+shut_first file h = made (shut_calls file (seen h)) h
 
 -- The file is shut on the disk before its header is written.
-unfoldable pub shut_first : ℕ → History → History
-shut_first file h = if is_unshut (of_file file (seen h)) then after_put file 0 (0 ∷ []) h else h
+abbrev pub head_calls : ℕ → ℕ → ℕ → List Call
+head_calls file generation first = put_calls file 1 (header_bytes generation first)
+
+abbrev pub recycle_calls : ℕ → ℕ → ℕ → Files → List Call
+recycle_calls file generation first files = shut_calls file files ++ head_calls file generation first
 
 unfoldable pub recycled : ℕ → ℕ → ℕ → History → History
-recycled file generation first h = after_put file 1 (header_bytes generation first) (shut_first file h)
+recycled file generation first h = made (recycle_calls file generation first (seen h)) h
+
+-- the gate of the file is opened
+abbrev pub enter_calls : ℕ → List Call
+enter_calls file = put_calls file 0 (1 ∷ [])
 
 unfoldable pub entered : ℕ → History → History
-entered file h = after_put file 0 (1 ∷ []) h
+entered file h = made (enter_calls file) h
 
 -- nothing is unsynced
 abbrev pub IsSynced : History → Type 0

@@ -15,4 +15,6 @@ pub use queue::{Queue, QueueMount};
 pub use state::State;
 
 #[cfg(test)]
+mod failing_tests;
+#[cfg(test)]
 mod tests;

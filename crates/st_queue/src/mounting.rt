@@ -4,8 +4,9 @@ ghost use Rattle.std.specs.List.{AllByRecursion};
 ghost use Rattle.std.specs.Option.{ForSome, option_map};
 ghost use Rattle.st_disk.specs.History.{of_file, seen};
 ghost use Rattle.st_disk.specs.Moments.{ToldLeavesOnly};
+ghost use Rattle.st_disk.specs.Calls.{ToldStoppedIn};
 ghost use Rattle.st_queue.specs.declared.frame.QueueRefusal.TheVariants.{Damaged, DiskFault};
-ghost use Rattle.st_queue.specs.Mounting.{IsImageOf, after_both, HasFault, IsOfMount, IsOutside};
+ghost use Rattle.st_queue.specs.Mounting.{IsImageOf, IsSyncedOrStopped, after_both, mount_calls, HasFault, IsOfMount, IsOutside};
 ghost use Rattle.st_queue.specs.Place.{next_number};
 ghost use Rattle.st_queue.specs.Reading.{IsReading, Fits, Rises};
 
@@ -23,8 +24,10 @@ pub(crate) fn read_disk<D: Disk>(alloc: Global, disk: &mut D) -> Result<Reading,
     ensures err { IfErr result IsOfMount }
     ensures synced { OnOk result (D.history disk.new ≡ option_map after_both (D.history disk.old)) }
     ensures damage { (file at : ℕ) → IsErrOf result (Damaged file at) → D.history disk.new ≡ option_map after_both (D.history disk.old) }
+    ensures stopped { OnErr result (IsSyncedOrStopped (D.history disk.old) (D.history disk.new)) }
     ensures any_moment { ToldLeavesOnly (D.history disk.old) (D.history disk.new) (IsImageOf (D.history disk.old)) }
     ensures cause { HasFault (D.fault_count disk.old) (D.fault_count disk.new) result }
+    ensures no_fault { OnOk result (D.fault_count disk.new ≡ D.fault_count disk.old) }
 {
     sync_both(disk)?;
     let zero = read_whole(alloc, disk, 0)?;
@@ -35,8 +38,10 @@ pub(crate) fn read_disk<D: Disk>(alloc: Global, disk: &mut D) -> Result<Reading,
 fn sync_both<D: Disk>(disk: &mut D) -> Result<(), QueueRefusal>
     ensures ok { OnOk result (D.history disk.new ≡ option_map after_both (D.history disk.old)) }
     ensures err { IfErr result IsOutside }
+    ensures stopped { OnErr result (ToldStoppedIn (λ _. mount_calls) (D.history disk.old) (D.history disk.new)) }
     ensures any_moment { ToldLeavesOnly (D.history disk.old) (D.history disk.new) (IsImageOf (D.history disk.old)) }
     ensures cause { HasFault (D.fault_count disk.old) (D.fault_count disk.new) result }
+    ensures no_fault { OnOk result (D.fault_count disk.new ≡ D.fault_count disk.old) }
 {
     if disk.sync(0).is_err() {
         return Err(fault(disk));
@@ -54,6 +59,7 @@ fn read_whole<D: Disk>(alloc: Global, disk: &mut D, file: u8) -> Result<Vec<u8>,
     ensures err { IfErr result IsOutside }
     ensures same { D.history disk.new ≡ D.history disk.old }
     ensures cause { HasFault (D.fault_count disk.old) (D.fault_count disk.new) result }
+    ensures no_fault { OnOk result (D.fault_count disk.new ≡ D.fault_count disk.old) }
 {
     let Ok(len) = disk.len(file) else {
         return Err(fault(disk));

@@ -5,9 +5,10 @@ ghost use Rattle.std.specs.List.{AllByRecursion};
 ghost use Rattle.std.specs.Option.{ForSome, option_map};
 ghost use Rattle.st_disk.specs.History.{risen, seen};
 ghost use Rattle.st_disk.specs.Moments.{ToldLeavesOnly};
+ghost use Rattle.st_disk.specs.Calls.{ToldStoppedIn};
 ghost use Rattle.st_queue.specs.declared.frame.QueueRefusal.TheVariants.{Broken, Damaged, DiskFault, Full};
 ghost use Rattle.st_queue.specs.Frames.{is_payload};
-ghost use Rattle.st_queue.specs.Mounting.{HasFault, IsImageOf, IsOfEntering, IsOfMount, IsOfWriting, after_both};
+ghost use Rattle.st_queue.specs.Mounting.{HasFault, IsImageOf, IsOfEntering, IsOfMount, IsOfWriting, IsOutside, IsSyncedOrStopped, after_both};
 ghost use Rattle.st_queue.specs.Due.{due_of};
 ghost use Rattle.st_queue.specs.Place.{current, next_file, next_generation, next_number, next_place};
 ghost use Rattle.st_queue.specs.Reading.{IsReading, Rises};
@@ -46,7 +47,7 @@ pub struct QueueMount<D> {
 
 impl<D: Disk> Queue<D> {
     ghost use Rattle.st_queue.specs.Queue.{IsBefore, IsKept, IsMounted, IsPast, IsSpent, UnlessFailed, after_refusal, is_due, with_current, with_discarded, with_entered, with_prepared};
-    ghost use Rattle.st_queue.specs.Writing.{Appends, HasFramesLess, ToldLess, ToldSettled, behind_frame, frames_now, recycled};
+    ghost use Rattle.st_queue.specs.Writing.{Appends, HasFramesLess, ToldLess, ToldSettled, append_calls, behind_frame, enter_calls, frames_now, recycle_calls, recycled};
     ghost use Rattle.st_queue.specs.Prepared.{Enters};
 
     /// Syncs both files and reads the frames. `swap` and `limit` are lengths of a file in bytes.
@@ -71,8 +72,11 @@ impl<D: Disk> Queue<D> {
         ensures damage { IfErr result (λ e. (file at : ℕ) → e.why ≡ Damaged file at
             → D.history e.disk ≡ option_map after_both (D.history disk)) }
         ensures any_moment_err { IfErr result (λ e. ToldLeavesOnly (D.history disk) (D.history e.disk) (IsImageOf (D.history disk))) }
+        ensures stopped { IfErr result (λ e. IsSyncedOrStopped (D.history disk) (D.history e.disk)) }
         ensures cause { IfErr result (λ e. (faults : ℕ) → e.why ≡ DiskFault faults
             → (faults ≡ D.fault_count e.disk) × (risen (D.fault_count disk) ≤ D.fault_count e.disk)) }
+        ensures never_falls { IfErr result (λ e. D.fault_count disk ≤ D.fault_count e.disk) }
+        ensures no_fault { IfOk result (λ mounted. D.fault_count mounted.0.disk ≡ D.fault_count disk) }
     {
         match read_disk(alloc, &mut disk) {
             Ok(reading) => {
@@ -127,10 +131,13 @@ impl<D: Disk> Queue<D> {
         ensures settled { UnlessFailed result (ToldSettled (D.history self.new.disk) self.old.state.current) }
         ensures ok { OnOk result (self.new.state
             ≡ with_prepared (Some (next_place self.old.state.current)) self.old.state) }
-        ensures untold { D.history self.old.disk ≡ None → self.new.state.broken ≡ None → D.history self.new.disk ≡ None }
         ensures refuses { IfErr result IsOfWriting }
         ensures err { IfErr result (λ refusal. IsKept refusal self.old.state self.new.state) }
+        ensures stopped { IfErr result (λ refusal. IsOutside refusal → ToldStoppedIn (recycle_calls
+            (next_file self.old.state.current) (next_generation self.old.state.current) (next_number self.old.state.current))
+            (D.history self.old.disk) (D.history self.new.disk)) }
         ensures cause { HasFault (D.fault_count self.old.disk) (D.fault_count self.new.disk) result }
+        ensures no_fault { OnOk result (D.fault_count self.new.disk ≡ D.fault_count self.old.disk) }
     {
         state::recycle(self.alloc, &mut self.disk, &mut self.state)
     }
@@ -146,7 +153,10 @@ impl<D: Disk> Queue<D> {
         ensures ok { OnOk result (self.new.state ≡ with_entered self.old.state) }
         ensures refuses { IfErr result IsOfEntering }
         ensures err { IfErr result (λ refusal. self.new.state ≡ after_refusal refusal self.old.state) }
+        ensures stopped { IfErr result (λ refusal. IsOutside refusal → ForSome self.old.state.prepared (λ place.
+            ToldStoppedIn (λ _. enter_calls place.file) (D.history self.old.disk) (D.history self.new.disk))) }
         ensures cause { HasFault (D.fault_count self.old.disk) (D.fault_count self.new.disk) result }
+        ensures no_fault { OnOk result (D.fault_count self.new.disk ≡ D.fault_count self.old.disk) }
     {
         state::enter_next(&mut self.disk, &mut self.state)
     }
@@ -166,7 +176,10 @@ impl<D: Disk> Queue<D> {
             (option_map (λ place. behind_frame place payload.now) self.old.state.current) self.old.state) }
         ensures refuses { IfErr result IsOfWriting }
         ensures err { IfErr result (λ refusal. self.new.state ≡ after_refusal refusal self.old.state) }
+        ensures stopped { IfErr result (λ refusal. IsOutside refusal → ForSome self.old.state.current (λ place.
+            ToldStoppedIn (λ _. append_calls place payload.now) (D.history self.old.disk) (D.history self.new.disk))) }
         ensures cause { HasFault (D.fault_count self.old.disk) (D.fault_count self.new.disk) result }
+        ensures no_fault { OnOk result (D.fault_count self.new.disk ≡ D.fault_count self.old.disk) }
     {
         state::append(self.alloc, &mut self.disk, &mut self.state, payload)
     }

@@ -3,6 +3,7 @@ ghost use Rattle.std.specs.Prelude.{◌≡◌, ◌<◌, ◌≤◌, ◌+◌, ◌-
 ghost use Rattle.std.specs.Option.{ForSome, option_map};
 ghost use Rattle.st_disk.specs.History.{of_file, with_file};
 ghost use Rattle.st_disk.specs.Moments.{ToldLeavesOnly};
+ghost use Rattle.st_disk.specs.Calls.{ToldStoppedIn};
 ghost use Rattle.st_queue.specs.declared.frame.QueueRefusal.TheVariants.{Broken, Full, NoMemory};
 ghost use Rattle.st_queue.specs.Due.{is_released};
 ghost use Rattle.st_queue.specs.Frames.{is_payload};
@@ -11,7 +12,7 @@ ghost use Rattle.st_queue.specs.Place.{next_file, next_generation, next_number, 
 ghost use Rattle.st_queue.specs.Queue.{Holds, broken_by, end_behind, is_due, with_current, with_entered, with_prepared, after_refusal, IsBefore, IsKept, IsPast, IsSpent, UnlessFailed};
 ghost use Rattle.st_queue.specs.Prepared.{Enters};
 ghost use Rattle.st_queue.specs.Reading.{Fits};
-ghost use Rattle.st_queue.specs.Writing.{Appends, after_put, behind_frame, header_bytes, recycled, shut_first, told_frames, HasFrames, HasFramesLess, ToldLess, ToldSettled};
+ghost use Rattle.st_queue.specs.Writing.{Appends, after_put, append_calls, behind_frame, enter_calls, head_calls, header_bytes, recycle_calls, recycled, shut_calls, shut_first, told_frames, HasFrames, HasFramesLess, ToldLess, ToldSettled};
 
 use crate::place::{last_behind, next_place, spent};
 use crate::reading::MAX_NUMBER;
@@ -93,7 +94,10 @@ pub(crate) fn append<D: Disk>(
         ≡ with_current (option_map (λ place. behind_frame place payload.now) state.old.current) state.old) }
     ensures refuses { IfErr result IsOfWriting }
     ensures err { IfErr result (λ refusal. state.new ≡ after_refusal refusal state.old) }
+    ensures stopped { IfErr result (λ refusal. IsOutside refusal → ForSome state.old.current (λ place.
+        ToldStoppedIn (λ _. append_calls place payload.now) (D.history disk.old) (D.history disk.new))) }
     ensures cause { HasFault (D.fault_count disk.old) (D.fault_count disk.new) result }
+    ensures no_fault { OnOk result (D.fault_count disk.new ≡ D.fault_count disk.old) }
 {
     if let Some(faults) = state.broken {
         return Err(QueueRefusal::Broken { faults });
@@ -166,7 +170,10 @@ pub(crate) fn enter_next<D: Disk>(disk: &mut D, state: &mut State) -> Result<(),
     ensures ok { OnOk result (state.new ≡ with_entered state.old) }
     ensures refuses { IfErr result IsOfEntering }
     ensures err { IfErr result (λ refusal. state.new ≡ after_refusal refusal state.old) }
+    ensures stopped { IfErr result (λ refusal. IsOutside refusal → ForSome state.old.prepared (λ place.
+        ToldStoppedIn (λ _. enter_calls place.file) (D.history disk.old) (D.history disk.new))) }
     ensures cause { HasFault (D.fault_count disk.old) (D.fault_count disk.new) result }
+    ensures no_fault { OnOk result (D.fault_count disk.new ≡ D.fault_count disk.old) }
 {
     if let Some(faults) = state.broken {
         return Err(QueueRefusal::Broken { faults });
@@ -198,7 +205,9 @@ fn shut_next<D: Disk>(disk: &mut D, state: &mut State) -> Result<(), QueueRefusa
     ensures ok { OnOk result (state.new ≡ with_prepared None state.old) }
     ensures err { IfErr result (λ refusal. state.new ≡ after_refusal refusal state.old) }
     ensures outside { IfErr result IsOutside }
+    ensures stopped { OnErr result (ToldStoppedIn (shut_calls (next_file state.old.current)) (D.history disk.old) (D.history disk.new)) }
     ensures cause { HasFault (D.fault_count disk.old) (D.fault_count disk.new) result }
+    ensures no_fault { OnOk result (D.fault_count disk.new ≡ D.fault_count disk.old) }
 {
     let file = next_place(state.current).file;
     if let Err(refusal) = shut(disk, state.current, flag_of(state.unshut, file)) {
@@ -225,7 +234,10 @@ fn head_next<D: Disk>(alloc: Global, disk: &mut D, state: &mut State) -> Result<
     ensures ok { OnOk result (state.new ≡ record state.old { prepared = Some (next_place state.old.current) }) }
     ensures err { IfErr result (λ refusal. state.new ≡ after_refusal refusal state.old) }
     ensures outside { IfErr result IsOutside }
+    ensures stopped { OnErr result (ToldStoppedIn (λ _. head_calls (next_file state.old.current) (next_generation state.old.current)
+        (next_number state.old.current)) (D.history disk.old) (D.history disk.new)) }
     ensures cause { HasFault (D.fault_count disk.old) (D.fault_count disk.new) result }
+    ensures no_fault { OnOk result (D.fault_count disk.new ≡ D.fault_count disk.old) }
 {
     if let Err(refusal) = write_header(alloc, disk, state.current) {
         state.broken = broken_by(refusal);
@@ -254,10 +266,12 @@ pub(crate) fn recycle<D: Disk>(
     ensures frames { UnlessFailed result (ToldLess state.old.discarded (D.history disk.old) (D.history disk.new)) }
     ensures settled { UnlessFailed result (ToldSettled (D.history disk.new) state.old.current) }
     ensures ok { OnOk result (state.new ≡ with_prepared (Some (next_place state.old.current)) state.old) }
-    ensures untold { D.history disk.old ≡ None → state.new.broken ≡ None → D.history disk.new ≡ None }
     ensures refuses { IfErr result IsOfWriting }
     ensures err { IfErr result (λ refusal. IsKept refusal state.old state.new) }
+    ensures stopped { IfErr result (λ refusal. IsOutside refusal → ToldStoppedIn (recycle_calls (next_file state.old.current)
+        (next_generation state.old.current) (next_number state.old.current)) (D.history disk.old) (D.history disk.new)) }
     ensures cause { HasFault (D.fault_count disk.old) (D.fault_count disk.new) result }
+    ensures no_fault { OnOk result (D.fault_count disk.new ≡ D.fault_count disk.old) }
 {
     if let Some(faults) = state.broken {
         return Err(QueueRefusal::Broken { faults });

@@ -1,15 +1,16 @@
 // Writes to a queue's disk.
-ghost use Rattle.std.specs.Prelude.{◌≡◌, ◌<◌, ◌≤◌, ◌+◌, ◌^◌, length, true, false, Some, None, IsTrue, IfOk, OnOk, IfErr, IsErrOf};
+ghost use Rattle.std.specs.Prelude.{◌≡◌, ◌<◌, ◌≤◌, ◌+◌, ◌^◌, length, true, false, Some, None, IsTrue, IfOk, OnOk, OnErr, IfErr, IsErrOf};
 ghost use Rattle.std.specs.Option.{option_map, ForSome};
 ghost use Rattle.st_disk.specs.History.{of_file, seen};
 ghost use Rattle.st_disk.specs.Moments.{ToldLeavesOnly};
+ghost use Rattle.st_disk.specs.Calls.{ToldStoppedIn};
 ghost use Rattle.st_queue.specs.declared.frame.QueueRefusal.TheVariants.{NoMemory};
 ghost use Rattle.st_queue.specs.Frames.{is_payload};
 ghost use Rattle.st_queue.specs.Mounting.{HasFault, IsOutside};
-ghost use Rattle.st_queue.specs.Place.{next_file, next_place, spent};
+ghost use Rattle.st_queue.specs.Place.{next_file, next_generation, next_number, next_place, spent};
 ghost use Rattle.st_queue.specs.Prepared.{Enters, Heads, Shuts, ToldPrepared, ToldUnshut};
 ghost use Rattle.st_queue.specs.Reading.{Fits};
-ghost use Rattle.st_queue.specs.Writing.{IsSynced, IsSettled, LeavesTorn, Appends, after_put, beside, frame_bytes, header_bytes};
+ghost use Rattle.st_queue.specs.Writing.{IsSynced, IsSettled, LeavesTorn, Appends, after_put, append_calls, beside, enter_calls, frame_bytes, head_calls, header_bytes, put_calls, shut_calls};
 
 use crate::mounting::fault;
 use crate::place::next_place;
@@ -54,7 +55,9 @@ pub(crate) fn append_frame<D: Disk>(
     ensures appends { Appends (D.history disk.old) (D.history disk.new) place payload.now result }
     ensures beside { IsErrOf result NoMemory → beside place.file (D.history disk.new) ≡ beside place.file (D.history disk.old) }
     ensures err { IfErr result IsOutside }
+    ensures stopped { OnErr result (ToldStoppedIn (λ _. append_calls place payload.now) (D.history disk.old) (D.history disk.new)) }
     ensures cause { HasFault (D.fault_count disk.old) (D.fault_count disk.new) result }
+    ensures no_fault { OnOk result (D.fault_count disk.new ≡ D.fault_count disk.old) }
 {
     let bytes = frame_bytes(alloc, place.next, payload)?;
     put(disk, place.file, place.gate + 1, &bytes)?;
@@ -84,7 +87,9 @@ pub(crate) fn shut<D: Disk>(
     requires unshut { ToldUnshut (next_file current) unshut (D.history disk.old) }
     ensures shuts { Shuts (D.history disk.old) (D.history disk.new) current result }
     ensures err { IfErr result IsOutside }
+    ensures stopped { OnErr result (ToldStoppedIn (shut_calls (next_file current)) (D.history disk.old) (D.history disk.new)) }
     ensures cause { HasFault (D.fault_count disk.old) (D.fault_count disk.new) result }
+    ensures no_fault { OnOk result (D.fault_count disk.new ≡ D.fault_count disk.old) }
 {
     if !unshut {
         return Ok(());
@@ -104,7 +109,10 @@ pub(crate) fn write_header<D: Disk>(
     requires unspent { spent current ≡ None }
     ensures heads { Heads (D.history disk.old) (D.history disk.new) current result }
     ensures err { IfErr result IsOutside }
+    ensures stopped { OnErr result (ToldStoppedIn (λ _. head_calls (next_file current) (next_generation current)
+        (next_number current)) (D.history disk.old) (D.history disk.new)) }
     ensures cause { HasFault (D.fault_count disk.old) (D.fault_count disk.new) result }
+    ensures no_fault { OnOk result (D.fault_count disk.new ≡ D.fault_count disk.old) }
 {
     let place = next_place(current);
     let bytes = header_bytes(alloc, place.generation, place.next)?;
@@ -118,7 +126,9 @@ pub(crate) fn enter<D: Disk>(disk: &mut D, current: Option<Place>) -> Result<(),
     requires prepared { ToldPrepared (D.history disk.old) (next_place current) }
     ensures enters { Enters (D.history disk.old) (D.history disk.new) (next_place current) result }
     ensures err { IfErr result IsOutside }
+    ensures stopped { OnErr result (ToldStoppedIn (λ _. enter_calls (next_file current)) (D.history disk.old) (D.history disk.new)) }
     ensures cause { HasFault (D.fault_count disk.old) (D.fault_count disk.new) result }
+    ensures no_fault { OnOk result (D.fault_count disk.new ≡ D.fault_count disk.old) }
 {
     put(disk, next_place(current).file, 0, &[OPEN])
 }
@@ -133,7 +143,9 @@ fn put<D: Disk>(disk: &mut D, file: u8, at: u64, bytes: &[u8]) -> Result<(), Que
     ensures err { IfErr result IsOutside }
     ensures any_moment { ToldLeavesOnly (D.history disk.old) (D.history disk.new)
         (LeavesTorn file at (length bytes.now) (D.history disk.old)) }
+    ensures stopped { OnErr result (ToldStoppedIn (λ _. put_calls file at bytes.now) (D.history disk.old) (D.history disk.new)) }
     ensures cause { HasFault (D.fault_count disk.old) (D.fault_count disk.new) result }
+    ensures no_fault { OnOk result (D.fault_count disk.new ≡ D.fault_count disk.old) }
 {
     match disk.write_at(file, at, bytes) {
         Ok(()) => {}

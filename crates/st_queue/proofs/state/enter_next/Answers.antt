@@ -1,4 +1,4 @@
-use Rattle.std.proofs.Common.{Err, ◌≡◌, ◌∙◌, Some, None, true, ap, rules}
+use Rattle.std.proofs.Common.{Err, ◌≡◌, ◌∙◌, Some, None, true, ap, sym, subst, rules}
 use Rattle.std.specs.Option.{option_map}
 use Rattle.st_disk.specs.History.{with_file}
 use Rattle.st_queue.specs.Place.{next_file, next_place}
@@ -6,6 +6,9 @@ use Rattle.st_queue.specs.Writing.{ToldSettled, entered}
 use Rattle.st_queue.specs.declared.frame.QueueRefusal.{QueueRefusal}
 use Rattle.st_queue.specs.declared.place.Place.{Place}
 use Rattle.st_queue.proofs.Held.{holds-entered, holds-refused, prepared-place}
+use Rattle.std.proofs.lemmas.Option.{same_Some}
+use Rattle.st_disk.specs.Calls.{ToldStoppedIn}
+use Rattle.st_queue.specs.Writing.{enter_calls}
 use Rattle.st_queue.proofs.state.enter_next.Goals as goal
 
 pub enter-requires-clause-prepared : goal.enter-requires-clause-prepared
@@ -32,3 +35,9 @@ pub returns-in-Err-clause-holds : goal.returns-in-Err-clause-holds
 returns-in-Err-clause-holds g c =
     let unbroken : c.args.state.now.broken ≡ None = search rules in
     holds-refused _ _ c.args.state.now c.in-Err.refusal c.requires.holds unbroken c.in-Err.ensures.err (λ e. c.enter.ensures.enters.same (c.in-Err.is ∙ ap (λ (r : QueueRefusal). Err r) e)) _ c.broken_by-state.ensures
+
+pub returns-in-Err-clause-stopped : goal.returns-in-Err-clause-stopped
+returns-in-Err-clause-stopped g c = λ outside place is.
+    let unbroken : c.args.state.now.broken ≡ None = search rules in
+    let ready = prepared-place _ c.args.state.now c.requires.holds unbroken (c.requires.prepared unbroken) in
+    subst (λ (p : Place). ToldStoppedIn (λ _. enter_calls p.file) (g.D.Disk.history c.args.disk.now) (g.D.Disk.history c.enter.new.disk)) (same_Some (next_place c.args.state.now.current) place (sym ready.0 ∙ is)) c.in-Err.ensures.stopped

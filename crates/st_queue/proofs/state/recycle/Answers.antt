@@ -1,14 +1,18 @@
-use Rattle.std.proofs.Common.{◌≡◌, ◌∙◌, Err, refl, ap, sym, subst}
-use Rattle.st_queue.specs.declared.frame.QueueRefusal.{QueueRefusal}
+use Rattle.std.proofs.Common.{◌≡◌, refl, ap, subst}
 use Rattle.std.specs.Option.{option_map}
 use Rattle.std.specs.Result.{OnOk}
 use Rattle.st_queue.specs.Place.{next_file, next_generation, next_number}
-use Rattle.st_queue.specs.Writing.{after_put, header_bytes, shut_first}
+use Rattle.st_queue.specs.Writing.{after_put, header_bytes}
 use Rattle.st_queue.specs.declared.place.Place.{Place}
 use Rattle.st_queue.specs.declared.state.State.{State}
 use Rattle.std.specs.Prelude.{Option}
-use Rattle.st_queue.proofs.Held.{less-then, less-told, recycled-both, untold-after, untold-refused}
+use Rattle.st_queue.proofs.Held.{less-then, less-told, recycled-both}
 use Rattle.st_queue.proofs.Recycles.{leaves-all, less-none}
+use Rattle.st_disk.specs.Calls.{ToldStoppedIn}
+use Rattle.std.proofs.lemmas.Result.{IfErr-weaker}
+use Rattle.std.specs.Result.{OnErr}
+use Rattle.st_queue.specs.Writing.{head_calls}
+use Rattle.st_queue.proofs.Stops.{if_err, recycle_stops-first, recycle_stops-second}
 use Rattle.st_queue.proofs.state.recycle.Goals as goal
 
 pub returns-in-Some-spent-clause-any_moment : goal.returns-in-Some-spent-clause-any_moment
@@ -32,12 +36,17 @@ returns-clause-calls g c =
     recycled-both (next_file old) (next_generation old) (next_number old) _ mid new c.head_next.result c.in_ok-shut_next.ensures.calls
     (subst (λ (o : Option Place). OnOk c.head_next.result (new ≡ option_map (after_put (next_file o) 1 (header_bytes (next_generation o) (next_number o))) mid)) same c.head_next.ensures.calls)
 
-pub returns-in_err-shut_next-clause-untold : goal.returns-in_err-shut_next-clause-untold
-returns-in_err-shut_next-clause-untold g c = λ none unbroken.
-    untold-refused c.in_err-shut_next.field-0.0 _ _ _ c.in_err-shut_next.ensures.outside (λ e. c.shut_next.ensures.same (c.in_err-shut_next.was ∙ ap (λ (r : QueueRefusal). Err r) e)) none
-    (sym (ap (λ (s : State). s.broken) c.in_err-shut_next.ensures.err) ∙ unbroken)
+pub returns-in_err-shut_next-clause-stopped : goal.returns-in_err-shut_next-clause-stopped
+returns-in_err-shut_next-clause-stopped g c =
+    let old = c.args.state.now.current in
+    if_err c.from_residual.result _ (λ refusal outside. recycle_stops-first (next_file old) (next_generation old) (next_number old) _ _ c.in_err-shut_next.ensures.stopped)
 
-pub returns-clause-untold : goal.returns-clause-untold
-returns-clause-untold g c = λ none unbroken.
-    untold-after c.head_next.result _ _ _ _ _ c.head_next.ensures.calls c.head_next.ensures.same c.head_next.ensures.err c.head_next.ensures.outside
-    (c.in_ok-shut_next.ensures.calls ∙ ap (option_map (shut_first (next_file c.args.state.now.current))) none) unbroken
+pub returns-clause-stopped : goal.returns-clause-stopped
+returns-clause-stopped g c =
+    let old = c.args.state.now.current in
+    let mid = g.D.Disk.history c.shut_next.new.disk in
+    let new = g.D.Disk.history c.head_next.new.disk in
+    let same : c.shut_next.new.state.current ≡ old = ap (λ (s : State). s.current) c.in_ok-shut_next.ensures.ok in
+    let stopped = subst (λ (o : Option Place). OnErr c.head_next.result (ToldStoppedIn (λ _. head_calls (next_file o) (next_generation o) (next_number o)) mid new)) same c.head_next.ensures.stopped in
+    IfErr-weaker c.head_next.result (λ _. ToldStoppedIn (λ _. head_calls (next_file old) (next_generation old) (next_number old)) mid new) _
+    (λ refusal stopped outside. recycle_stops-second (next_file old) (next_generation old) (next_number old) _ mid new c.in_ok-shut_next.ensures.calls stopped) stopped

@@ -5,6 +5,10 @@ use Rattle.st_queue.specs.declared.frame.QueueRefusal.{QueueRefusal}
 use Rattle.st_queue.specs.Writing.{frame_bytes, after_put, beside, LeavesTorn}
 use Rattle.st_queue.proofs.Appends.{ends-at_once, ends-first, ends-both, append-middle, first-begins, settled-synced, gate-begins}
 use Rattle.st_queue.proofs.Puts.{beside-put}
+use Rattle.st_disk.specs.Calls.{ToldStoppedIn}
+use Rattle.std.proofs.lemmas.Result.{on_err_weaker}
+use Rattle.st_queue.specs.Writing.{put_calls}
+use Rattle.st_queue.proofs.Stops.{if_err, append_stops-none, append_stops-first, append_stops-second}
 use Rattle.st_queue.proofs.writing.append_frame.Goals as goal
 
 pub returns-in_err-bytes-clause-appends : goal.returns-in_err-bytes-clause-appends
@@ -64,3 +68,25 @@ returns-clause-beside g c = λ wanting.
     let told = g.D.Disk.history c.args.disk.now in
     let same : g.D.Disk.history c.put-2.new.disk ≡ g.D.Disk.history c.put.new.disk = c.put-2.ensures.no_memory wanting in
     ap (beside place.file) (same ∙ c.in_ok-put.ensures.ok) ∙ beside-put place.file (place.gate + 1) c.deref.result.now told
+
+pub returns-in_err-bytes-clause-stopped : goal.returns-in_err-bytes-clause-stopped
+returns-in_err-bytes-clause-stopped g c = if_err c.from_residual.result _ (λ _. append_stops-none c.args.place c.args.payload.now (g.D.Disk.history c.args.disk.now))
+
+pub returns-in_err-put-clause-stopped : goal.returns-in_err-put-clause-stopped
+returns-in_err-put-clause-stopped g c =
+    let place = c.args.place in
+    let told = g.D.Disk.history c.args.disk.now in
+    let new = g.D.Disk.history c.put.new.disk in
+    let bytes_is : c.deref.result.now ≡ frame_bytes place.next c.args.payload.now = c.deref.ensures.value ∙ c.in_ok-bytes.ensures in
+    if_err c.from_residual-in_err-put.result _ (λ _. append_stops-first place c.args.payload.now told new
+    (subst (λ (l : List ℕ). ToldStoppedIn (λ _. put_calls place.file (place.gate + 1) l) told new) bytes_is c.in_err-put.ensures.stopped))
+
+pub returns-clause-stopped : goal.returns-clause-stopped
+returns-clause-stopped g c =
+    let place = c.args.place in
+    let told = g.D.Disk.history c.args.disk.now in
+    let new = g.D.Disk.history c.put.new.disk in
+    let bytes_is : c.deref.result.now ≡ frame_bytes place.next c.args.payload.now = c.deref.ensures.value ∙ c.in_ok-bytes.ensures in
+    let wrote : new ≡ option_map (after_put place.file (place.gate + 1) (frame_bytes place.next c.args.payload.now)) told =
+    c.in_ok-put.ensures.ok ∙ ap (λ (l : List ℕ). option_map (after_put place.file (place.gate + 1) l) told) bytes_is in
+    on_err_weaker c.put-2.result (λ stopped. append_stops-second place c.args.payload.now told new _ wrote stopped) c.put-2.ensures.stopped

@@ -56,6 +56,8 @@ impl PlainMap {
         let count = count_taken(&pairs, rows, bytes);
         let more = count < pairs.len();
         pairs.truncate(count);
+        // An answer is kept, and keeps no room for the pairs that weren't taken.
+        pairs.shrink_to_fit();
         Ok(Answer::Rows {
             rows: Items::from_vec(pairs),
             more,

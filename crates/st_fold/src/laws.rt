@@ -1,5 +1,8 @@
 //! Laws of the definitions, each the contract of a function that does nothing.
-ghost use Rattle.std.specs.Prelude.{◌≡◌, ℕ, List, None, fold};
+ghost use Rattle.std.specs.Prelude.{◌≡◌, ℕ, List, None, IsTrue, fold};
+ghost use Rattle.std.specs.Cmp.Lexicographic.{slice_cmp};
+ghost use Rattle.std.specs.FinMap.Entries.{is_sorted};
+ghost use Rattle.std.specs.Ordering.{nat_cmp};
 ghost use Rattle.st_mutation.specs.declared.batch.Batch.{Batch};
 ghost use Rattle.st_mutation.specs.declared.batch.Mutation.{Mutation};
 ghost use Rattle.st_mutation.specs.Effect.{value_by, value_by_batch};
@@ -14,4 +17,9 @@ pub fn keys_change_by_themselves()
         → value_at (apply_batch pairs batch) key ≡ value_by_batch key (value_at pairs key) batch }
     ensures log { (log : List Batch) (version : ℕ) (key : List ℕ)
         → value_at (folded log version) key ≡ fold (value_by_batch key) None (batches_to version log) }
+{}
+
+/// What folding a log gives is in the order of its keys.
+pub fn folds_are_in_order()
+    ensures { (log : List Batch) (version : ℕ) → IsTrue (is_sorted (slice_cmp nat_cmp) (folded log version)) }
 {}

@@ -16,7 +16,7 @@ mod value;
 
 pub use answer::answer_to;
 pub use assigned::assigned_to;
-pub use laws::keys_change_by_themselves;
+pub use laws::{folds_are_in_order, keys_change_by_themselves};
 pub use plain::{PlainMap, fold_to};
 pub use plan::{Act, Do, Kind, LifePlan, Script, Settings};
 pub use report::{Answered, Damage, Ending, Event, Fault, ForeignPart, Life};

@@ -118,6 +118,17 @@ impl PlainMap {
         }
     }
 
+    /// All pairs, in the order of their keys.
+    pub fn pairs(&self) -> Result<Vec<(Key, Value)>, AllocError>
+        ensures { IfOk result (λ pairs. pairs.items ≡ self.now) }
+    {
+        let mut all = Vec::new(self.alloc);
+        for (key, value) in self.pairs.iter() {
+            all.push((stored_key(self.alloc, key)?, value.clone()?))?;
+        }
+        Ok(all)
+    }
+
     // The pairs in a range, in the order of their keys. It takes time linear in the map.
     pub(crate) fn pairs_in(&self, range: &Range) -> Result<Vec<(Key, Value)>, AllocError>
         ensures { IfOk result (λ pairs. pairs.items ≡ pairs_in range.now self.now) }

@@ -78,6 +78,15 @@ fn a_log_is_folded_up_to_a_version(rt: HostRuntime) -> Result<(), Fail> {
             assert_eq!(rt; pairs.get(key), value, "in the map of version {version}");
         }
     }
+    // its pairs come in the order of their keys, in which they were not set
+    let pairs = fold_to(alloc, &log, 3)?.pairs()?;
+    assert_eq!(rt; pairs.len(), 3);
+    let mut shown = Vec::new(alloc);
+    for (key, value) in &pairs {
+        shown.extend_from_slice(key.bytes())?;
+        shown.extend_from_slice(value.bytes())?;
+    }
+    assert_eq!(rt; shown.as_slice(), b"a1b2c3".as_slice());
     Ok(())
 }
 

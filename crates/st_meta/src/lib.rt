@@ -8,7 +8,7 @@ mod state;
 mod tests;
 mod writing;
 
-pub use laws::written_is_stored;
+pub use laws::{stored_is_read, written_is_stored};
 pub use reading::of_pairs;
 pub use state::{Meta, MetaRefusal};
 pub use writing::to_ops;

@@ -12,4 +12,4 @@ returns c =
     rows_are c.args.rows c.args.bytes c.count_taken-count.result c.len.result inside c.from_vec.result
     (c.count_taken-count.ensures ∙ ap (λ pairs. length (taken c.args.rows c.args.bytes pairs)) seen)
     (c.len.ensures ∙ sym c.deref.ensures.len ∙ ap length seen)
-    (c.from_vec.ensures ∙ c.truncate.ensures.items ∙ ap (take c.count_taken-count.result) same)
+    (c.from_vec.ensures ∙ c.shrink_to_fit.ensures.items ∙ c.truncate.ensures.items ∙ ap (take c.count_taken-count.result) same)

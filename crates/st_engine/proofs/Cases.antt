@@ -27,3 +27,7 @@ same_Err x y r is also = ap (λ r. err_or r x) (sym is ∙ also)
 pub no-fault : (o : Option ℕ) → ((n : ℕ) → o ≡ Some n → ⊥) → o ≡ None
 no-fault None none = refl
 no-fault (Some n) none = absurd (none n refl)
+
+pub none-if : {T : Type 0} → (o : Option T) → ((x : T) → o ≡ Some x → ⊥) → o ≡ None
+none-if None none = refl
+none-if (Some x) none = absurd (none x refl)

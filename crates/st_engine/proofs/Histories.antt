@@ -1,5 +1,5 @@
 -- What a disk that tells its history reads as while a commit is written, and afterwards.
-use Rattle.std.proofs.Common.{◌≡◌, ⊎_elim, inl, inr, ℕ, Bool, true, if◌then◌else◌, List, Option, Some, None, Result, Ok, Err, IsOk, refl, sym, ap, subst, arith}
+use Rattle.std.proofs.Common.{◌≡◌, ⊎_elim, inl, inr, ℕ, List, Option, Some, None, Result, Ok, Err, IsOk, refl, sym, subst, arith}
 use Rattle.std.proofs.lemmas.Option.{same_Some}
 use Rattle.std.specs.Option.{option_map}
 use Rattle.st_disk.specs.FileState.{settled}
@@ -7,13 +7,10 @@ use Rattle.st_disk.specs.History.{History, Files, FileStates, CanLeave, MayLeave
 use Rattle.st_disk.specs.Images.{image-seen, image-settled, sound-settled}
 use Rattle.st_disk.specs.Moments.{ToldLeavesOnly, joined, started, weaker}
 use Rattle.st_queue.specs.Frames.{Damage}
-use Rattle.st_queue.specs.Place.{next_file, next_generation, next_number}
-use Rattle.st_queue.specs.Queue.{is_due}
-use Rattle.st_queue.specs.Writing.{entered, recycled, HasFrames, HasFramesLess, HasFramesOrMore, HasLess, IsSynced, ToldSettled, frames_now, frames_of, told_frames, with_frame}
+use Rattle.st_queue.specs.Writing.{HasFrames, HasFramesLess, HasFramesOrMore, HasLess, IsSynced, ToldSettled, frames_now, frames_of, told_frames, with_frame}
 use Rattle.st_queue.specs.declared.frame.Frame.{Frame}
 use Rattle.st_queue.specs.declared.place.Place.{Place}
-use Rattle.st_queue.specs.declared.state.State.{State}
-use Rattle.st_engine.specs.Commit.{begun, HasLessOrMore, HasOneMore, ToldFewer, ToldOneMore}
+use Rattle.st_engine.specs.Answers.{HasLessOrMore, HasOneMore, ToldFewer, ToldOneMore}
 
 abbrev Reading : Type 0
 Reading = Result (List Frame) Damage
@@ -41,7 +38,7 @@ less-now from (Some h) (Some n) place leaves is = leaves.each (seen n) (inl (see
 
 -- fewer frames, and then the same
 pub joined-frames : (from : ℕ) (told mid new : Option History) → ToldLeavesOnly told mid (HasFramesLess from told) → ToldFewer from told mid → ToldLeavesOnly mid new (HasFrames mid) → ToldLeavesOnly told new (HasFramesLess from told)
-joined-frames from None mid new first less second = tt
+joined-frames from None mid new first less second = subst (λ (m : Option History). ToldLeavesOnly m new (HasFrames mid)) first second
 joined-frames from (Some h) None new first less second = absurd first
 joined-frames from (Some h) (Some m) None first less second = absurd second
 joined-frames from (Some h) (Some m) (Some n) first less second =
@@ -56,7 +53,7 @@ more from frame older (Ok left) reading less ok is = record { left = left; less 
 -- fewer frames, and then the same or one more
 pub joined-more : (from : ℕ) (frame : Frame) (told mid new : Option History) (place : Option Place) → ToldLeavesOnly told mid (HasFramesLess from told) → ToldFewer from told mid → ToldSettled mid place
     → ToldLeavesOnly mid new (HasFramesOrMore frame mid) → ToldLeavesOnly told new (HasLessOrMore from frame told)
-joined-more from frame None mid new place first less settled second = tt
+joined-more from frame None mid new place first less settled second = subst (λ (m : Option History). ToldLeavesOnly m new (HasFramesOrMore frame mid)) first second
 joined-more from frame (Some h) None new place first less settled second = absurd first
 joined-more from frame (Some h) (Some m) None place first less settled second = absurd second
 joined-more from frame (Some h) (Some m) (Some n) place first less settled second =
@@ -68,7 +65,7 @@ joined-more from frame (Some h) (Some m) (Some n) place first less settled secon
     either))
 
 pub fewer-or-more : (from : ℕ) (frame : Frame) (told new : Option History) → ToldLeavesOnly told new (HasFramesLess from told) → ToldLeavesOnly told new (HasLessOrMore from frame told)
-fewer-or-more from frame None new leaves = tt
+fewer-or-more from frame None new leaves = leaves
 fewer-or-more from frame (Some h) None leaves = leaves
 fewer-or-more from frame (Some h) (Some n) leaves = weaker h n (HasFramesLess from (Some h)) (HasLessOrMore from frame (Some h)) leaves (λ images fewer. inl fewer)
 
@@ -96,18 +93,6 @@ all-less from (Some h) = all (frames_now h)
     all (Err damage) = refl
 
 pub leaves-less : (from : ℕ) (told : Option History) (place : Option Place) → ToldSettled told place → ToldLeavesOnly told told (HasFramesLess from told)
-leaves-less from None place settled = tt
+leaves-less from None place settled = refl
 leaves-less from (Some h) place settled =
     started h (HasFramesLess from (Some h)) (λ images may. subst (λ (f : Files). HasLess from (frames_now h) (frames_of f)) (sym (image-synced h settled.synced images may)) (all-less from (Some h)))
-
--- The calls of a disk that may not tell them.
-pub option_map-twice : (f g : History → History) (told : Option History) → option_map g (option_map f told) ≡ option_map (λ h. g (f h)) told
-option_map-twice f g None = refl
-option_map-twice f g (Some h) = refl
-
--- a next file is begun where it is due
-pub then-begun : (state : State) (told : Option History) → is_due state ≡ true
-    → option_map (entered (next_file state.current)) (option_map (recycled (next_file state.current) (next_generation state.current) (next_number state.current)) told) ≡ option_map (begun state) told
-then-begun state None due = refl
-then-begun state (Some h) due =
-    ap (λ (t : Bool). Some (if t then entered (next_file state.current) (recycled (next_file state.current) (next_generation state.current) (next_number state.current) h) else h)) (sym due)

@@ -8,6 +8,9 @@ mod Snapshots
 mod Items
 mod Sizes
 mod Histories
+mod Runs
+mod Counts
+mod Rows
 mod Refusals
 mod Keeping
 mod Recovering

@@ -5,7 +5,7 @@ use Rattle.std.proofs.lemmas.List.Sums.{fold-append}
 use Rattle.st_fold.specs.Map.{Map}
 use Rattle.st_queue.specs.Reading.{Rises}
 use Rattle.st_queue.specs.declared.frame.Frame.{Frame}
-use Rattle.st_engine.specs.Engine.{Points, began_behind, points_of, points_on}
+use Rattle.st_engine.specs.Holding.{Points, began_behind, points_of, points_on}
 use Rattle.st_engine.specs.Kept.{Stand}
 use Rattle.st_engine.specs.Replay.{Recovery, frame_on}
 use Rattle.st_engine.specs.Snapshot.{has_close}

@@ -1,9 +1,12 @@
+pub use Rattle.st_disk.specs.Calls
 pub use Rattle.st_disk.specs.History
 pub use Rattle.st_disk.specs.Moments
+pub use Rattle.st_disk.specs.Recorded
 pub use Rattle.st_fold.specs.Map
 pub use Rattle.st_ops.specs.Grammar
 pub use Rattle.st_ops.specs.Spelling
 pub use Rattle.st_ptree.specs.Entries
+pub use Rattle.st_queue.specs.Due
 pub use Rattle.st_queue.specs.Frames
 pub use Rattle.st_queue.specs.Mounting
 pub use Rattle.st_queue.specs.Place
@@ -12,6 +15,9 @@ pub use Rattle.st_queue.specs.Writing
 pub mod Replay
 pub mod Behind
 pub mod Snapshot
+pub mod Holding
+pub mod Store
 pub mod Commit
 pub mod Kept
 pub mod Engine
+pub mod Answers

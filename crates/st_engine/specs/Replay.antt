@@ -1,15 +1,12 @@
 -- What operations make of a map, and what a recovery reads from frames.
-use Rattle.std.specs.Prelude.{ℕ, Bool, true, not, ◌&&◌, List, [], fold, filter, Option, Some, None, Result}
-use Rattle.std.specs.Result.{result_map_both, result_unwrap_or}
-use Rattle.st_disk.specs.History.{Files}
+use Rattle.std.specs.Prelude.{ℕ, Bool, true, not, ◌&&◌, List, [], fold, filter, Option, Some, None}
+use Rattle.std.specs.Result.{result_unwrap_or}
 use Rattle.st_fold.specs.Map.{Map, apply}
 use Rattle.st_key.specs.Spans.{key_less}
 use Rattle.st_mutation.specs.declared.batch.Mutation.TheVariants as mutation
 use Rattle.st_ops.specs.Reading.{reading}
 use Rattle.st_ops.specs.declared.op.Op.{Op}
 use Rattle.st_ops.specs.declared.op.Op.TheVariants.{Set, Clear, SnapItem, SnapEnd}
-use Rattle.st_queue.specs.Frames.{Damage}
-use Rattle.st_queue.specs.Writing.{frames_of}
 use Rattle.st_queue.specs.declared.frame.Frame.{Frame}
 
 -- The map after an operation: sets and clears change it as those of a log do, and no other operation does.
@@ -61,7 +58,3 @@ from_map pairs = record { pairs = pairs; last = None }
 -- the map that frames make of this one
 abbrev pub replay : Map → List Frame → Map
 replay start frames = (fold frame_on (from_map start) frames).pairs
-
--- the map that two files hold: what their frames make of the empty one
-abbrev pub map_of : Files → Result Map Damage
-map_of files = result_map_both (replay []) (λ damage. damage) (frames_of files)

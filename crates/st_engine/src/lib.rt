@@ -9,7 +9,9 @@ mod snapshot;
 mod writing;
 
 pub use engine::Engine;
-pub use laws::operations_change_each_key;
+pub use laws::{
+    commits_make_four_to_ten_calls, mounted_maps_are_in_order, operations_change_each_key,
+};
 pub use st_queue::{QueueMount as EngineMount, QueueRefusal as EngineRefusal};
 
 #[cfg(test)]

@@ -4,7 +4,7 @@ ghost use Rattle.st_ops.specs.declared.op.Op.TheVariants.{SnapEnd, SnapItem};
 ghost use Rattle.st_ptree.specs.Entries.{pairs_of};
 ghost use Rattle.st_engine.specs.Replay.{frame_on, is_above, kept_to, ops_of, recovered_by};
 ghost use Rattle.st_engine.specs.Snapshot.{has_close, is_end};
-ghost use Rattle.st_engine.specs.Engine.{points_of};
+ghost use Rattle.st_engine.specs.Holding.{points_of};
 ghost use Rattle.st_engine.specs.Kept.{Stand};
 ghost use Rattle.st_ops.specs.Grammar.{has_form};
 ghost use Rattle.st_queue.specs.Reading.{Rises};

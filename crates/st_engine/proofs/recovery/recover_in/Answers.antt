@@ -1,7 +1,7 @@
 use Rattle.std.proofs.Common.{◌≡◌, ◌∙◌, ◌<◌, ◌^◌, ◌+◌, ◌-◌, ◌++◌, ◌∷◌, [], min, take, drop, sym, subst, rules, true}
 use Rattle.std.specs.List.{AllByRecursion}
 use Rattle.std.proofs.lemmas.List.{take_more, drop_more, take_all}
-use Rattle.st_engine.specs.Engine.{points_of}
+use Rattle.st_engine.specs.Holding.{points_of}
 use Rattle.st_engine.specs.Replay.{Recovery, frame_on}
 use Rattle.st_engine.specs.Snapshot.{has_close}
 use Rattle.st_engine.proofs.Recovering.{Read, none-read, read-closed, read-on}

@@ -1,5 +1,6 @@
-use Rattle.st_engine.proofs.Mounts.{stands-holds}
+use Rattle.std.proofs.Common.{subst}
+use Rattle.st_engine.specs.Engine.{Keeps}
 use Rattle.st_engine.proofs.engine.Engine.pairs.Goals as goal
 
-pub returns-clause-holds : goal.returns-clause-holds
-returns-clause-holds g c = rw (← c.self.view_is) (λ unbroken. stands-holds _ _ _ _ _ (c.self.invariant.stands unbroken))
+pub returns-clause-agrees : goal.returns-clause-agrees
+returns-clause-agrees g c = (subst (Keeps g.D.Disk.history) c.self.view_is c.self.invariant).agrees

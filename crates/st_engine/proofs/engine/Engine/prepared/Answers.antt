@@ -21,20 +21,20 @@ pub returns-clause-payload : goal.returns-clause-payload
 returns-clause-payload g c =
     let ops = c.args.ops.now in
     let cursor : c.in_ok-clone.field-0 ≡ c.self.inside.cursor = search rules in
-    let whole : c.in_ok-written.written.ops.items ≡ whole_of c.args.self.now.quota c.args.self.now.cursor c.args.self.now.pairs ops =
+    let whole : c.in_ok-written.written.ops.items ≡ whole_of c.args.self.now.bounds.quota c.args.self.now.store.cursor c.args.self.now.store.pairs ops =
     c.in_ok-written.ensures.ops
     ∙ (λ i. ops ++ snap (cursor i) (room_of c.self.inside.quota ops) (c.in_ok-pairs.ensures.pairs i) ++ Commit ∷ [])
-    ∙ ap (λ m. whole_of m.quota m.cursor m.pairs ops) c.self.view_is in
+    ∙ ap (λ m. whole_of m.bounds.quota m.store.cursor m.store.pairs ops) c.self.view_is in
     c.in_ok-payload.ensures ∙ ap spelt (c.deref.ensures.value ∙ whole)
 
 pub returns-clause-read : goal.returns-clause-read
 returns-clause-read g c =
     let ops = c.args.ops.now in
     let cursor : c.in_ok-clone.field-0 ≡ c.self.inside.cursor = search rules in
-    let whole : c.in_ok-written.written.ops.items ≡ whole_of c.args.self.now.quota c.args.self.now.cursor c.args.self.now.pairs ops =
+    let whole : c.in_ok-written.written.ops.items ≡ whole_of c.args.self.now.bounds.quota c.args.self.now.store.cursor c.args.self.now.store.pairs ops =
     c.in_ok-written.ensures.ops
     ∙ (λ i. ops ++ snap (cursor i) (room_of c.self.inside.quota ops) (c.in_ok-pairs.ensures.pairs i) ++ Commit ∷ [])
-    ∙ ap (λ m. whole_of m.quota m.cursor m.pairs ops) c.self.view_is in
+    ∙ ap (λ m. whole_of m.bounds.quota m.store.cursor m.store.pairs ops) c.self.view_is in
     let form : IsTrue (has_form c.in_ok-written.written.ops.items) =
     subst (λ l. IsTrue (has_form l)) (sym c.in_ok-written.ensures.ops)
     (snap_form c.form_of_parts.ensures.joined ops c.requires.changes (pairs_of c.in_ok-pairs.pairs) c.in_ok-written.ensures.ordered c.in_ok-clone.field-0 (room_of c.self.inside.quota ops)) in
@@ -45,10 +45,10 @@ pub returns-clause-form : goal.returns-clause-form
 returns-clause-form g c =
     let ops = c.args.ops.now in
     let cursor : c.in_ok-clone.field-0 ≡ c.self.inside.cursor = search rules in
-    let whole : c.in_ok-written.written.ops.items ≡ whole_of c.args.self.now.quota c.args.self.now.cursor c.args.self.now.pairs ops =
+    let whole : c.in_ok-written.written.ops.items ≡ whole_of c.args.self.now.bounds.quota c.args.self.now.store.cursor c.args.self.now.store.pairs ops =
     c.in_ok-written.ensures.ops
     ∙ (λ i. ops ++ snap (cursor i) (room_of c.self.inside.quota ops) (c.in_ok-pairs.ensures.pairs i) ++ Commit ∷ [])
-    ∙ ap (λ m. whole_of m.quota m.cursor m.pairs ops) c.self.view_is in
+    ∙ ap (λ m. whole_of m.bounds.quota m.store.cursor m.store.pairs ops) c.self.view_is in
     let form : IsTrue (has_form c.in_ok-written.written.ops.items) =
     subst (λ l. IsTrue (has_form l)) (sym c.in_ok-written.ensures.ops)
     (snap_form c.form_of_parts.ensures.joined ops c.requires.changes (pairs_of c.in_ok-pairs.pairs) c.in_ok-written.ensures.ordered c.in_ok-clone.field-0 (room_of c.self.inside.quota ops)) in

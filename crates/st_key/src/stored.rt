@@ -1,5 +1,5 @@
 //! Keys and values of a bounded length.
-ghost use Rattle.std.specs.Prelude.{◌≡◌, ◌<◌, ◌≤◌, [], ◌∷◌, ◌++◌, length, IfOk};
+ghost use Rattle.std.specs.Prelude.{◌≡◌, ◌<◌, ◌≤◌, [], ◌∷◌, ◌++◌, length, nat_le, Ok, Err, if◌then◌else◌, IfOk};
 ghost use Rattle.st_key.specs.Refused.{RefusesLongKey, RefusesLongValue};
 
 use bytes::Bytes;
@@ -86,19 +86,13 @@ impl Key {
         Key::bounded(alloc, bytes, MAX_KEY_LEN)
     }
 
-    /// A key of these bytes, of which there may be [`MAX_KEY_LEN`]. It copies none of them.
-    pub fn from_vec(bytes: Vec<u8>) -> Result<Key, KeyRefusal>
-        ensures ok { IfOk result (λ key. key ≡ bytes.items) }
-        ensures refused { RefusesLongKey MAX_KEY_LEN (length bytes.items) result }
+    /// A key of these bytes, of which there may be [`MAX_KEY_LEN`]. It shares them, and takes no
+    /// memory.
+    pub fn from_bytes(bytes: Bytes) -> Result<Key, KeyRefusal>
+        ensures { result ≡ (if nat_le (length bytes) MAX_KEY_LEN then Ok bytes
+            else Err (KeyRefusal.KeyTooLong (length bytes))) }
     {
-        let len = bytes.len();
-        if len > MAX_KEY_LEN {
-            return Err(KeyRefusal::KeyTooLong { len: len as u64 });
-        }
-        match Bytes::from_vec(bytes) {
-            Ok(bytes) => Ok(Key { bytes }),
-            Err(_) => Err(KeyRefusal::NoMemory),
-        }
+        Key::shared(bytes, MAX_KEY_LEN)
     }
 
     /// The end of a range, of which [`MAX_END_KEY_LEN`] bytes may be.
@@ -107,6 +101,15 @@ impl Key {
         ensures refused { RefusesLongKey MAX_END_KEY_LEN (length bytes.now) result }
     {
         Key::bounded(alloc, bytes, MAX_END_KEY_LEN)
+    }
+
+    /// The end of a range, of which [`MAX_END_KEY_LEN`] bytes may be. It shares them, and takes no
+    /// memory.
+    pub fn end_from_bytes(bytes: Bytes) -> Result<Key, KeyRefusal>
+        ensures { result ≡ (if nat_le (length bytes) MAX_END_KEY_LEN then Ok bytes
+            else Err (KeyRefusal.KeyTooLong (length bytes))) }
+    {
+        Key::shared(bytes, MAX_END_KEY_LEN)
     }
 
     fn bounded(alloc: Global, bytes: &[u8], max_len: usize) -> Result<Key, KeyRefusal>
@@ -122,6 +125,19 @@ impl Key {
         match Bytes::copy_from_slice(alloc, bytes) {
             Ok(bytes) => Ok(Key { bytes }),
             Err(AllocError) => Err(KeyRefusal::NoMemory),
+        }
+    }
+
+    fn shared(bytes: Bytes, max_len: usize) -> Result<Key, KeyRefusal>
+        requires { max_len ≤ MAX_END_KEY_LEN }
+        ensures { result ≡ (if nat_le (length bytes) max_len then Ok bytes
+            else Err (KeyRefusal.KeyTooLong (length bytes))) }
+    {
+        let len = bytes.len();
+        if len <= max_len {
+            Ok(Key { bytes })
+        } else {
+            Err(KeyRefusal::KeyTooLong { len: len as u64 })
         }
     }
 
@@ -173,6 +189,20 @@ impl Value {
         match Bytes::from_vec(bytes) {
             Ok(bytes) => Ok(Value { bytes }),
             Err(_) => Err(ValueRefusal::NoMemory),
+        }
+    }
+
+    /// A value of these bytes, of which there may be [`MAX_VALUE_LEN`]. It shares them, and takes no
+    /// memory.
+    pub fn from_bytes(bytes: Bytes) -> Result<Value, ValueRefusal>
+        ensures { result ≡ (if nat_le (length bytes) MAX_VALUE_LEN then Ok bytes
+            else Err (ValueRefusal.ValueTooLong (length bytes))) }
+    {
+        let len = bytes.len();
+        if len <= MAX_VALUE_LEN {
+            Ok(Value { bytes })
+        } else {
+            Err(ValueRefusal::ValueTooLong { len: len as u64 })
         }
     }
 

@@ -1,4 +1,5 @@
 use super::*;
+use bytes::Bytes;
 use std::alloc::Global;
 use std::test::Fail;
 
@@ -48,6 +49,31 @@ fn reads_values_up_to_the_limit(rt: HostRuntime) -> Result<(), Fail> {
     assert_eq!(rt; copy.bytes().len(), 100_000);
     assert!(rt; copy == value);
     let refused = Value::read(rt.alloc(), &bytes).err();
+    assert_eq!(rt; refused, Some(ValueRefusal::ValueTooLong { len: 100_001 }));
+    Ok(())
+}
+
+fn front(bytes: &Bytes, len: usize) -> Result<Bytes, Fail> {
+    if bytes.len() < len {
+        return Err("the bytes are too few")?;
+    }
+    Ok(bytes.slice(0..len)?)
+}
+
+#[test]
+fn shares_bytes_up_to_the_limits(rt: HostRuntime) -> Result<(), Fail> {
+    let bytes = Bytes::from_vec(vec![in rt.alloc(); 7u8; 100_001]?)?;
+    let key = Key::from_bytes(front(&bytes, 10_000)?)?;
+    assert_eq!(rt; key.bytes().len(), 10_000);
+    let end = Key::end_from_bytes(front(&bytes, 10_001)?)?;
+    assert!(rt; key < end);
+    let value = Value::from_bytes(front(&bytes, 100_000)?)?;
+    assert_eq!(rt; value.bytes().len(), 100_000);
+    let refused = Key::from_bytes(front(&bytes, 10_001)?).err();
+    assert_eq!(rt; refused, Some(KeyRefusal::KeyTooLong { len: 10_001 }));
+    let refused = Key::end_from_bytes(front(&bytes, 10_002)?).err();
+    assert_eq!(rt; refused, Some(KeyRefusal::KeyTooLong { len: 10_002 }));
+    let refused = Value::from_bytes(bytes).err();
     assert_eq!(rt; refused, Some(ValueRefusal::ValueTooLong { len: 100_001 }));
     Ok(())
 }

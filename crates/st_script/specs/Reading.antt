@@ -17,12 +17,16 @@ use Rattle.st_script.specs.Draft.{Drafted, nothing_yet, later_forms, is_among, i
 abbrev pub max_bytes : ℕ
 max_bytes = 67108864
 
+-- the draft with what a line of this form says
+abbrev pub add_form : Drafted → Form → List (List ℕ) → Result Drafted Kind
+add_form draft form words = line_of form words >>= add_line draft
+
 -- a line of a known form: is it played, may it stand here, what does it say, and what does it add
 abbrev pub judge_form : Drafted → Form → List (List ℕ) → Result Drafted Kind
 judge_form draft form words =
     if is_later_line draft form words then Err kind.Unbuilt
     else (if not (is_allowed draft.place form) || is_repeated draft form then Err kind.Order
-    else (line_of form words >>= add_line draft))
+    else add_form draft form words)
 
 abbrev pub judge_known : Drafted → Option Form → List ℕ → List (List ℕ) → Result Drafted Kind
 judge_known draft (Some form) word words = judge_form draft form words

@@ -4,12 +4,13 @@ ghost use Rattle.std.specs.List.{list_any};
 ghost use Rattle.st_script.specs.Fields.{is_word};
 ghost use Rattle.st_script.specs.Draft.{nothing_yet, all_keys, later_forms, later_requests, later_acts, is_among, are_all_keys, is_later_line, is_allowed, is_repeated, on_last, last_version, add_batch, add_mutation, add_request, rows_asked, add_line};
 ghost use Rattle.st_script.specs.Outcome.{Says, Becomes, Reads};
-ghost use Rattle.st_script.specs.Reading.{judge_head, judge_form, judge_known, judge, after_line, default_settings, finish};
+ghost use Rattle.st_script.specs.Reading.{judge_head, add_form, judge_form, judge_known, judge, after_line, default_settings, finish};
 ghost use Rattle.st_script.specs.Words.{is_empty};
 
 use crate::field::is_word;
-use crate::line::{Form, Line, Place};
+use crate::line::{Form, Line, Place, batch_version, pair};
 use crate::refusal::{LineRefusal, ScriptRefusal};
+use crate::store::Store;
 use crate::words::{first_words, is_skipped};
 use st_fold::{Ask, Do, Kind, LifePlan, Request, Script, Settings};
 use st_key::{Key, Range, Ranges};
@@ -108,19 +109,30 @@ impl Draft {
         }
     }
 
-    /// Reads the next line, without its LF.
-    pub(crate) fn read_line(&mut self, alloc: Global, line: &[u8]) -> Result<(), LineRefusal>
+    /// Reads the next line, without its LF. The words of the line before make room for its own.
+    pub(crate) fn read_line<'a>(
+        &mut self,
+        alloc: Global,
+        store: &mut Store,
+        words: &mut Vec<&'a [u8]>,
+        line: &'a [u8],
+    ) -> Result<(), LineRefusal>
         ensures { Becomes result self.new (after_line self.old line.now) }
     {
         if is_skipped(line) {
             return Ok(());
         }
-        let words = first_words(alloc, line)?;
-        self.judge(alloc, &words)
+        first_words(words, line)?;
+        self.judge(alloc, store, words)
     }
 
     // Judges the words of a line that isn't skipped.
-    fn judge(&mut self, alloc: Global, words: &[&[u8]]) -> Result<(), LineRefusal>
+    fn judge(
+        &mut self,
+        alloc: Global,
+        store: &mut Store,
+        words: &[&[u8]],
+    ) -> Result<(), LineRefusal>
         ensures { Becomes result self.new (judge self.old (map (λ word. word.now) words.now)) }
     {
         let Some((word, others)) = words.split_first() else {
@@ -130,7 +142,7 @@ impl Draft {
             return self.begin(word, others);
         }
         match Form::of(word) {
-            Some(form) => self.judge_form(alloc, form, others),
+            Some(form) => self.judge_form(alloc, store, form, others),
             None if is_among(&LATER_FORMS, word) => Err(LineRefusal::Bad(Kind::Unbuilt)),
             None => Err(LineRefusal::Bad(Kind::Word)),
         }
@@ -151,7 +163,13 @@ impl Draft {
     }
 
     // Judges a line of a known form by the words after the first.
-    fn judge_form(&mut self, alloc: Global, form: Form, words: &[&[u8]]) -> Result<(), LineRefusal>
+    fn judge_form(
+        &mut self,
+        alloc: Global,
+        store: &mut Store,
+        form: Form,
+        words: &[&[u8]],
+    ) -> Result<(), LineRefusal>
         ensures { Becomes result self.new
             (judge_form self.old form (map (λ word. word.now) words.now)) }
     {
@@ -161,8 +179,39 @@ impl Draft {
         if !is_allowed(self.place, form) || self.is_repeated(form) {
             return Err(LineRefusal::Bad(Kind::Order));
         }
-        let line = Line::read(alloc, form, words)?;
-        self.add(alloc, line)
+        self.add_form(alloc, store, form, words)
+    }
+
+    // Adds what a line of a form says. Batches and changes, which most lines are, are added as they
+    // are read.
+    fn add_form(
+        &mut self,
+        alloc: Global,
+        store: &mut Store,
+        form: Form,
+        words: &[&[u8]],
+    ) -> Result<(), LineRefusal>
+        ensures { Becomes result self.new
+            (add_form self.old form (map (λ word. word.now) words.now)) }
+    {
+        match form {
+            Form::Batch => {
+                let version = batch_version(words)?;
+                self.begin_batch(alloc, version)
+            }
+            Form::Set => {
+                let (key, value) = pair(store, words)?;
+                self.push_mutation(Mutation::Set(key, value))
+            }
+            Form::Atomic(op) => {
+                let (key, value) = pair(store, words)?;
+                self.push_mutation(Mutation::Atomic(op, key, value))
+            }
+            _ => {
+                let line = Line::read(store, form, words)?;
+                self.add(alloc, line)
+            }
+        }
     }
 
     // Whether the line is of a form that isn't played yet.
@@ -229,10 +278,12 @@ impl Draft {
         if self.log.len() >= MAX_BATCHES {
             return Err(LineRefusal::Bad(Kind::Limit));
         }
+        // Most batches are short.
+        let mutations = Vec::with_capacity(alloc, 1)?;
         self.log.push(Batch {
             version,
             moves: Items::new(alloc),
-            mutations: Items::new(alloc),
+            mutations: Items::from_vec(mutations),
         })?;
         self.place = Place::Batch;
         Ok(())
@@ -316,13 +367,15 @@ impl Draft {
                 kind: Kind::End,
             });
         }
+        let mut log = self.log;
+        log.shrink_to_fit();
         Ok(Script {
             settings: Settings {
                 patience: self.patience.unwrap_or(DEFAULT_SETTINGS.patience),
                 ..DEFAULT_SETTINGS
             },
             own: self.own,
-            log: Items::from_vec(self.log),
+            log: Items::from_vec(log),
             lives: Items::from_vec(self.lives),
         })
     }

@@ -1,14 +1,14 @@
 //! Reads single words.
-ghost use Rattle.std.specs.Prelude.{◌≡◌, ◌≤◌, Ok, Err, IfOk, if◌then◌else◌, length, nat_le, option_map};
+ghost use Rattle.std.specs.Prelude.{◌≡◌, ◌≤◌, Ok, Err, IfOk, if◌then◌else◌, length, nat_le};
 ghost use Rattle.st_key.specs.Spans.{key_less};
-ghost use Rattle.st_script.specs.Fields.{is_word, begins_with, number_of, number_field, offset_field, version_field, bytes_of, bytes_field, key_field, value_field, range_of, range_about};
-ghost use Rattle.st_script.specs.Outcome.{Says, SaysAs};
+ghost use Rattle.st_script.specs.Fields.{is_word, begins_with, number_of, number_field, offset_field, version_field, key_field, value_field, range_of, range_about};
+ghost use Rattle.st_script.specs.Outcome.{Says};
 
 use crate::refusal::LineRefusal;
-use hex::FromHexError;
+use crate::store::Store;
+use bytes::Bytes;
 use st_fold::Kind;
 use st_key::{Key, KeyRefusal, Range, Value};
-use std::alloc::{AllocError, Global};
 
 /// The greatest version.
 pub(crate) const MAX_VERSION: u64 = 9_223_372_036_854_775_807;
@@ -89,26 +89,6 @@ fn decimal(word: &[u8]) -> Option<u64>
     Some(number)
 }
 
-fn decode(alloc: Global, word: &[u8]) -> Result<Option<Vec<u8>>, AllocError>
-    ensures { IfOk result (λ bytes. option_map (λ v. v.items) bytes ≡ bytes_of word.now) }
-{
-    if is_word(word, b"-") {
-        return Ok(Some(Vec::new(alloc)));
-    }
-    match hex::decode(alloc, word) {
-        Ok(bytes) => Ok(Some(bytes)),
-        Err(FromHexError::OutOfMemory) => Err(AllocError),
-        Err(_) => Ok(None),
-    }
-}
-
-/// Bytes, of any number.
-pub(crate) fn bytes(alloc: Global, word: &[u8]) -> Result<Vec<u8>, LineRefusal>
-    ensures { SaysAs (λ v. v.items) result (bytes_field word.now) }
-{
-    Ok(decode(alloc, word)?.ok_or(Kind::Hex)?)
-}
-
 fn is_less(a: &[u8], b: &[u8]) -> bool
     ensures { result ≡ key_less a.now b.now }
 {
@@ -116,33 +96,33 @@ fn is_less(a: &[u8], b: &[u8]) -> bool
 }
 
 /// A key that is stored: at most 10,000 bytes, and below ff.
-pub(crate) fn key(alloc: Global, word: &[u8]) -> Result<Key, LineRefusal>
+pub(crate) fn key(store: &mut Store, word: &[u8]) -> Result<Key, LineRefusal>
     ensures { Says result (key_field word.now) }
 {
-    let bytes = bytes(alloc, word)?;
-    if !is_less(&bytes, &[0xff]) {
+    let bytes = store.decode(word)?;
+    if !is_less(bytes.as_slice(), &[0xff]) {
         return Err(LineRefusal::Bad(Kind::Key));
     }
-    Ok(Key::from_vec(bytes)?)
+    Ok(Key::from_bytes(bytes)?)
 }
 
 /// A value of at most 100,000 bytes.
-pub(crate) fn value(alloc: Global, word: &[u8]) -> Result<Value, LineRefusal>
+pub(crate) fn value(store: &mut Store, word: &[u8]) -> Result<Value, LineRefusal>
     ensures { Says result (value_field word.now) }
 {
-    let bytes = bytes(alloc, word)?;
-    Ok(Value::from_vec(bytes)?)
+    let bytes = store.decode(word)?;
+    Ok(Value::from_bytes(bytes)?)
 }
 
 /// The range between two ends, which aren't judged as keys.
-pub(crate) fn range(alloc: Global, begin: &[u8], end: &[u8]) -> Result<Range, LineRefusal>
-    ensures { Says result (range_of begin.now end.now) }
+pub(crate) fn range(begin: Bytes, end: Bytes) -> Result<Range, LineRefusal>
+    ensures { Says result (range_of begin end) }
 {
-    if is_less(&[0xff], end) {
+    if is_less(&[0xff], end.as_slice()) {
         return Err(LineRefusal::Bad(Kind::Range));
     }
-    let begin = end_key(alloc, begin)?;
-    let end = end_key(alloc, end)?;
+    let begin = end_key(begin)?;
+    let end = end_key(end)?;
     match Range::new(begin, end) {
         Ok(range) => Ok(range),
         Err(_) => Err(LineRefusal::Bad(Kind::Range)),
@@ -150,27 +130,22 @@ pub(crate) fn range(alloc: Global, begin: &[u8], end: &[u8]) -> Result<Range, Li
 }
 
 // An end of a range.
-fn end_key(alloc: Global, bytes: &[u8]) -> Result<Key, LineRefusal>
-    ensures { Says result (if nat_le (length bytes.now) 10001 then Ok bytes.now else Err Kind.Range) }
+fn end_key(bytes: Bytes) -> Result<Key, LineRefusal>
+    ensures { Says result (if nat_le (length bytes) 10001 then Ok bytes else Err Kind.Range) }
 {
-    match Key::end(alloc, bytes) {
+    match Key::end_from_bytes(bytes) {
         Ok(key) => Ok(key),
         Err(KeyRefusal::KeyTooLong { .. }) => Err(LineRefusal::Bad(Kind::Range)),
-        Err(KeyRefusal::NoMemory) => Err(LineRefusal::NoMemory),
+        Err(KeyRefusal::NoMemory) => unreachable!(),
     }
 }
 
 /// The range between two ends, neither of which lies on the wrong side of `key`.
-pub(crate) fn range_about(
-    alloc: Global,
-    key: &Key,
-    begin: &[u8],
-    end: &[u8],
-) -> Result<Range, LineRefusal>
-    ensures { Says result (range_about key.now begin.now end.now) }
+pub(crate) fn range_about(key: &Key, begin: Bytes, end: Bytes) -> Result<Range, LineRefusal>
+    ensures { Says result (range_about key.now begin end) }
 {
-    if is_less(key.bytes(), begin) || is_less(end, key.bytes()) {
+    if is_less(key.bytes(), begin.as_slice()) || is_less(end.as_slice(), key.bytes()) {
         return Err(LineRefusal::Bad(Kind::Range));
     }
-    range(alloc, begin, end)
+    range(begin, end)
 }

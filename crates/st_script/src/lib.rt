@@ -12,12 +12,14 @@ mod field;
 mod line;
 mod refusal;
 mod request;
+mod store;
 mod words;
 
 use draft::Draft;
 pub use refusal::ScriptRefusal;
 pub use st_fold::{Act, Do, Kind, LifePlan, Script, Settings};
 use std::alloc::Global;
+use store::Store;
 use words::cut_line;
 
 /// How many bytes a script may have.
@@ -35,12 +37,16 @@ pub fn read(alloc: Global, bytes: &[u8]) -> Result<Script, ScriptRefusal>
             kind: Kind::Long,
         });
     }
+    let Ok(mut store) = Store::new(alloc, bytes.len()) else {
+        return Err(ScriptRefusal::NoMemory);
+    };
+    let mut words = Vec::new(alloc);
     let mut draft = Draft::new(alloc);
     let mut number = 1;
     let mut rest = bytes;
     while !rest.is_empty() {
         let (line, after) = cut_line(rest);
-        if let Err(why) = draft.read_line(alloc, line) {
+        if let Err(why) = draft.read_line(alloc, &mut store, &mut words, line) {
             return Err(why.at(number));
         }
         number += 1;

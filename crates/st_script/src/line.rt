@@ -3,19 +3,19 @@ ghost use Rattle.std.specs.Prelude.{◌≡◌, map, if◌then◌else◌};
 ghost use Rattle.std.specs.Option.{option_copied};
 ghost use Rattle.st_script.specs.Fields.{number_field};
 ghost use Rattle.st_script.specs.Lines.{form_in, form_of, line_of, pair_of, pair_in, clear_line, asked_by, ask_line, last_line, step_line, apply_line, poll_by, poll_line, do_line};
-ghost use Rattle.st_script.specs.Outcome.{Says};
+ghost use Rattle.st_script.specs.Outcome.{Says, SaysAs};
 ghost use Rattle.st_script.specs.Words.{is_empty};
 
 use crate::field::{
-    MAX_VERSION, bytes, is_word, key as read_key, number, range, small_number, value as read_value,
+    MAX_VERSION, is_word, key as read_key, number, range, small_number, value as read_value,
 };
 use crate::refusal::LineRefusal;
 use crate::request::{is_request, read_request};
+use crate::store::Store;
 use st_atomic::AtomicOp;
 use st_fold::{Act, Ask, Do, Kind};
 use st_key::{Key, Value};
 use st_mutation::Mutation;
-use std::alloc::Global;
 
 /// How many polls the patience may be.
 const MAX_PATIENCE: u32 = 1_000;
@@ -137,7 +137,7 @@ fn form_in(table: &[(&[u8], Form)], word: &[u8]) -> Option<Form>
 
 impl Line {
     /// Reads what the words after the first say.
-    pub(crate) fn read(alloc: Global, form: Form, words: &[&[u8]]) -> Result<Line, LineRefusal>
+    pub(crate) fn read(store: &mut Store, form: Form, words: &[&[u8]]) -> Result<Line, LineRefusal>
         ensures { Says result (line_of form (map (λ word. word.now) words.now)) }
     {
         match form {
@@ -145,19 +145,19 @@ impl Line {
             Form::Patience => patience_line(words),
             Form::Own => Ok(Line::OwnsAll),
             Form::Log => no_words(words, Line::LogBegins),
-            Form::Batch => batch_line(words),
+            Form::Batch => Ok(Line::BatchOf(batch_version(words)?)),
             Form::Set => {
-                let (key, value) = pair(alloc, words)?;
+                let (key, value) = pair(store, words)?;
                 Ok(Line::Changes(Mutation::Set(key, value)))
             }
-            Form::Clear => clear_line(alloc, words),
+            Form::Clear => clear_line(store, words),
             Form::Atomic(op) => {
-                let (key, value) = pair(alloc, words)?;
+                let (key, value) = pair(store, words)?;
                 Ok(Line::Changes(Mutation::Atomic(op, key, value)))
             }
             Form::Life => life_line(words),
-            Form::Ask => ask_line(alloc, words),
-            Form::Last => last_line(alloc, words),
+            Form::Ask => ask_line(store, words),
+            Form::Last => last_line(store, words),
             Form::Do => do_line(words),
             Form::Close => no_words(words, Line::Closes),
             Form::End => no_words(words, Line::Ends),
@@ -184,48 +184,49 @@ fn patience_line(words: &[&[u8]]) -> Result<Line, LineRefusal>
     }
 }
 
-fn batch_line(words: &[&[u8]]) -> Result<Line, LineRefusal>
-    ensures { Says result (line_of Form.Batch (map (λ word. word.now) words.now)) }
+/// The version of a batch.
+pub(crate) fn batch_version(words: &[&[u8]]) -> Result<u64, LineRefusal>
+    ensures { SaysAs Line.BatchOf result (line_of Form.Batch (map (λ word. word.now) words.now)) }
 {
     match words {
-        [version] => Ok(Line::BatchOf(number(version, 1, MAX_VERSION)?)),
+        [version] => Ok(number(version, 1, MAX_VERSION)?),
         _ => Err(LineRefusal::Bad(Kind::Word)),
     }
 }
 
-// Two words that are a key and a value.
-fn pair(alloc: Global, words: &[&[u8]]) -> Result<(Key, Value), LineRefusal>
+/// Two words that are a key and a value.
+pub(crate) fn pair(store: &mut Store, words: &[&[u8]]) -> Result<(Key, Value), LineRefusal>
     ensures { Says result (pair_in (map (λ word. word.now) words.now)) }
 {
     match words {
-        [key, value] => key_and_value(alloc, key, value),
+        [key, value] => key_and_value(store, key, value),
         _ => Err(LineRefusal::Bad(Kind::Word)),
     }
 }
 
-fn key_and_value(alloc: Global, key: &[u8], value: &[u8]) -> Result<(Key, Value), LineRefusal>
+fn key_and_value(store: &mut Store, key: &[u8], value: &[u8]) -> Result<(Key, Value), LineRefusal>
     ensures { Says result (pair_of key.now value.now) }
 {
-    let key = read_key(alloc, key)?;
-    let value = read_value(alloc, value)?;
+    let key = read_key(store, key)?;
+    let value = read_value(store, value)?;
     Ok((key, value))
 }
 
-fn clear_line(alloc: Global, words: &[&[u8]]) -> Result<Line, LineRefusal>
+fn clear_line(store: &mut Store, words: &[&[u8]]) -> Result<Line, LineRefusal>
     ensures { Says result (line_of Form.Clear (map (λ word. word.now) words.now)) }
 {
     match words {
-        [begin, end] => clear(alloc, begin, end),
+        [begin, end] => clear(store, begin, end),
         _ => Err(LineRefusal::Bad(Kind::Word)),
     }
 }
 
-fn clear(alloc: Global, begin: &[u8], end: &[u8]) -> Result<Line, LineRefusal>
+fn clear(store: &mut Store, begin: &[u8], end: &[u8]) -> Result<Line, LineRefusal>
     ensures { Says result (clear_line begin.now end.now) }
 {
-    let begin = bytes(alloc, begin)?;
-    let end = bytes(alloc, end)?;
-    let range = range(alloc, &begin, &end)?;
+    let begin = store.decode(begin)?;
+    let end = store.decode(end)?;
+    let range = range(begin, end)?;
     Ok(Line::Changes(Mutation::Clear(range)))
 }
 
@@ -238,31 +239,31 @@ fn life_line(words: &[&[u8]]) -> Result<Line, LineRefusal>
     }
 }
 
-fn ask_line(alloc: Global, words: &[&[u8]]) -> Result<Line, LineRefusal>
+fn ask_line(store: &mut Store, words: &[&[u8]]) -> Result<Line, LineRefusal>
     ensures { Says result (ask_line (map (λ word. word.now) words.now)) }
 {
     match words {
-        [reader, request @ ..] if is_request(request) => ask(alloc, reader, request),
+        [reader, request @ ..] if is_request(request) => ask(store, reader, request),
         _ => Err(LineRefusal::Bad(Kind::Word)),
     }
 }
 
-fn ask(alloc: Global, reader: &[u8], request: &[&[u8]]) -> Result<Line, LineRefusal>
+fn ask(store: &mut Store, reader: &[u8], request: &[&[u8]]) -> Result<Line, LineRefusal>
     ensures { Says result (asked_by reader.now (map (λ word. word.now) request.now)) }
 {
     let reader = reader_number(reader)?;
-    let ask = read_request(alloc, request)?;
+    let ask = read_request(store, request)?;
     Ok(Line::Asks(reader, ask))
 }
 
 // A request of no reader.
-fn last_line(alloc: Global, request: &[&[u8]]) -> Result<Line, LineRefusal>
+fn last_line(store: &mut Store, request: &[&[u8]]) -> Result<Line, LineRefusal>
     ensures { Says result (last_line (map (λ word. word.now) request.now)) }
 {
     if !is_request(request) {
         return Err(LineRefusal::Bad(Kind::Word));
     }
-    let ask = read_request(alloc, request)?;
+    let ask = read_request(store, request)?;
     Ok(Line::Asks(0, ask))
 }
 

@@ -4,12 +4,12 @@ ghost use Rattle.st_script.specs.Outcome.{Says};
 ghost use Rattle.st_script.specs.Requests.{is_at, is_direction, is_relation, is_ranged, is_request, get_of, rows_of, select_of, request_of};
 
 use crate::field::{
-    begins_with, bytes, is_word, key as read_key, offset as read_offset, range, range_about,
-    small_number, version,
+    begins_with, is_word, key as read_key, offset as read_offset, range, range_about, small_number,
+    version,
 };
 use crate::refusal::LineRefusal;
+use crate::store::Store;
 use st_fold::{Ask, Kind};
-use std::alloc::Global;
 
 /// How many rows a request may be answered.
 const MAX_ROWS: u32 = 10_000;
@@ -32,16 +32,16 @@ pub(crate) fn is_request(words: &[&[u8]]) -> bool
 }
 
 /// Reads a request.
-pub(crate) fn read_request(alloc: Global, words: &[&[u8]]) -> Result<Ask, LineRefusal>
+pub(crate) fn read_request(store: &mut Store, words: &[&[u8]]) -> Result<Ask, LineRefusal>
     ensures { Says result (request_of (map (λ word. word.now) words.now)) }
 {
     match words {
-        [_, key, at] => get(alloc, key, at),
+        [_, key, at] => get(store, key, at),
         [request, first, second, third, fourth, fifth, at] => {
             if is_word(request, b"range") {
-                read_rows(alloc, first, second, third, fourth, fifth, at)
+                read_rows(store, first, second, third, fourth, fifth, at)
             } else {
-                select(alloc, first, second, third, fourth, fifth, at)
+                select(store, first, second, third, fourth, fifth, at)
             }
         }
         _ => Err(LineRefusal::Bad(Kind::Word)),
@@ -75,16 +75,16 @@ fn is_relation(word: &[u8]) -> bool
     is_word(word, b"eq") || is_word(word, b"ne")
 }
 
-fn get(alloc: Global, key: &[u8], at: &[u8]) -> Result<Ask, LineRefusal>
+fn get(store: &mut Store, key: &[u8], at: &[u8]) -> Result<Ask, LineRefusal>
     ensures { Says result (get_of key.now at.now) }
 {
-    let key = read_key(alloc, key)?;
+    let key = read_key(store, key)?;
     let version = version(at)?;
     Ok(Ask::Get(key, version))
 }
 
 fn read_rows(
-    alloc: Global,
+    store: &mut Store,
     begin: &[u8],
     end: &[u8],
     rows: &[u8],
@@ -95,13 +95,13 @@ fn read_rows(
     ensures { Says result
         (rows_of begin.now end.now rows.now size.now direction.now at.now) }
 {
-    let begin = bytes(alloc, begin)?;
-    let end = bytes(alloc, end)?;
+    let begin = store.decode(begin)?;
+    let end = store.decode(end)?;
     let rows = small_number(rows, 1, MAX_ROWS)?;
     let size = small_number(size, 1, MAX_BYTES)?;
     let version = version(at)?;
     Ok(Ask::Rows {
-        range: range(alloc, &begin, &end)?,
+        range: range(begin, end)?,
         rows,
         bytes: size,
         reverse: is_word(direction, b"rev"),
@@ -110,7 +110,7 @@ fn read_rows(
 }
 
 fn select(
-    alloc: Global,
+    store: &mut Store,
     key: &[u8],
     relation: &[u8],
     offset: &[u8],
@@ -121,12 +121,12 @@ fn select(
     ensures { Says result
         (select_of key.now relation.now offset.now begin.now end.now at.now) }
 {
-    let key = read_key(alloc, key)?;
+    let key = read_key(store, key)?;
     let offset = read_offset(offset)?;
-    let begin = bytes(alloc, begin)?;
-    let end = bytes(alloc, end)?;
+    let begin = store.decode(begin)?;
+    let end = store.decode(end)?;
     let version = version(at)?;
-    let range = range_about(alloc, &key, &begin, &end)?;
+    let range = range_about(&key, begin, end)?;
     Ok(Ask::Select {
         key,
         or_equal: is_word(relation, b"eq"),

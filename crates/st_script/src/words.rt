@@ -1,8 +1,8 @@
 //! Cuts a script into lines, and a line into words.
-ghost use Rattle.std.specs.Prelude.{◌≡◌, ◌<◌, ◌∷◌, take, length, map, IfOk};
+ghost use Rattle.std.specs.Prelude.{◌≡◌, ◌<◌, ◌∷◌, take, length, map, OnOk};
 ghost use Rattle.st_script.specs.Words.{lines, words, is_skipped};
 
-use std::alloc::{AllocError, Global};
+use std::alloc::AllocError;
 
 /// How many words of a line are looked at. A line of a known form has fewer.
 const MAX_WORDS: usize = 10;
@@ -29,13 +29,16 @@ pub(crate) fn is_skipped(line: &[u8]) -> bool
     }
 }
 
-/// The first words of a line, at most [`MAX_WORDS`].
-pub(crate) fn first_words(alloc: Global, line: &[u8]) -> Result<Vec<&[u8]>, AllocError>
-    ensures { IfOk result (λ found.
-        map (λ word. word.now) found.items ≡ take MAX_WORDS (words line.now)) }
+/// Puts the first words of a line, at most [`MAX_WORDS`], in the place of those that were found
+/// before.
+pub(crate) fn first_words<'a>(found: &mut Vec<&'a [u8]>, line: &'a [u8]) -> Result<(), AllocError>
+    ensures { OnOk result
+        (map (λ word. word.now) found.new.items ≡ take MAX_WORDS (words line.now)) }
 {
-    line.split(|byte| *byte == b' ')
-        .filter(|word| !word.is_empty())
-        .take(MAX_WORDS)
-        .collect(alloc)
+    found.clear();
+    found.extend(
+        line.split(|byte| *byte == b' ')
+            .filter(|word| !word.is_empty())
+            .take(MAX_WORDS),
+    )
 }

@@ -19,9 +19,7 @@ use Rattle.st_mutation.specs.Effect.{value_by}
 use Rattle.st_mutation.specs.declared.batch.Batch.{Batch}
 use Rattle.st_mutation.specs.declared.batch.Move.{Move}
 use Rattle.st_mutation.specs.declared.batch.Mutation.{Mutation}
-use Rattle.st_versioned.specs.Root.{decided, decision_above}
-use Rattle.st_versioned.specs.Window.{Stands, Versions, begun, is_dated, made_above, sealed}
-use Rattle.st_versioned.specs.declared.change.Dated.{Dated}
+use Rattle.st_versioned.specs.Window.{Stands, Versions, begun, sealed}
 use Rattle.st_course.specs.Course.{Course, behind, clears_after, course_of}
 use Rattle.st_course.specs.Sent.{batches_between, sent_by, sent_of, value_of}
 use Rattle.st_board.specs.Base.{Among, IsWrite, Store}
@@ -30,6 +28,7 @@ use Rattle.st_board.specs.Logs.{HasShortKey}
 use Rattle.st_board.specs.Stands.{Keeps, Standing, all_served}
 use Rattle.st_board.specs.Storing.{all_stored}
 use Rattle.st_board.proofs.Between.{among-more, between-next, versions_of}
+use Rattle.st_board.proofs.Deciding.{WritesDecide}
 use Rattle.st_board.proofs.Lists.{all-append, all-filter, same-number}
 use Rattle.st_board.proofs.Logs.{IsNext, is-next, next_above, none_to}
 use Rattle.st_board.proofs.Sealing.{adds, kept-applied, making-first, sealed-is, sealed-mutations}
@@ -96,12 +95,12 @@ module _ (given : Given) (opening : Opening) (store : Store) (board : Standing) 
       (goes_on given opening store.fresh board.trace board.state Next (Applied batch.version) keeps.course keeps.legal keeps.is_course stepped)
       ∙ ap (λ o. option_map_or (λ (course : Course). course.clears) o []) (sym keeps.is_course)
 
-  pub keeps-applied : CourseGoesOn → ((version last : ℕ) (r : List Dated) (key : List ℕ) → is_dated last r ≡ true → decided (made_above version r) key ≡ decision_above version (decided r key))
+  pub keeps-applied : CourseGoesOn → WritesDecide
       → ((mutation : Mutation) (to : Span) (key : List ℕ) (before : Option (List ℕ)) → within to key ≡ true → value_by_part key before (clipped mutation to) ≡ value_by key before mutation)
       → (window : Versions) → window ≡ sealed (all_stored board.base board.state.pieces (begun batch.version board.window) batch.mutations) → Stands window
       → (trace : List Event) → trace ≡ board.trace ++ Applied batch.version ∷ []
       → Keeps given opening store (record { trace = trace; state = Next; window = window; base = board.base })
-  keeps-applied goes_on decided_above clip_inside window made stands trace more = record {
+  keeps-applied goes_on writing clip_inside window made stands trace more = record {
     still = keeps.still;
     legal = ap (state_after given opening) more ∙ legal-more given opening board.trace (Applied batch.version) board.state Next keeps.legal keeps.going_on stepped;
     going_on = ap (list_any is_end) more ∙ goes-on-more board.trace (Applied batch.version) keeps.going_on refl;
@@ -118,9 +117,9 @@ module _ (given : Given) (opening : Opening) (store : Store) (board : Standing) 
         };
     versions =
         subst (λ w. KeepsVersions given.log durable batch.version w board.base) (sym one)
-        (kept-applied given.log durable newest board.window board.base keeps.versions batch next-is decided_above clip_inside (subst Stands one stands));
+        (kept-applied given.log durable newest board.window board.base keeps.versions batch next-is writing clip_inside (subst Stands one stands));
     roots =
-        ap (λ (w : Versions). map (λ kept. kept.version) w.roots) (one ∙ sealed-is batch.version board.window After (adds given.log durable newest board.window board.base keeps.versions batch next-is decided_above clip_inside))
+        ap (λ (w : Versions). map (λ kept. kept.version) w.roots) (one ∙ sealed-is batch.version board.window After (adds given.log durable newest board.window board.base keeps.versions batch next-is writing clip_inside))
         ∙ map-append (λ kept. kept.version) board.window.roots _
         ∙ ap (λ l. l ++ batch.version ∷ []) keeps.roots
         ∙ ap (λ l. durable ∷ l) (sym versions_next);
@@ -135,6 +134,7 @@ module _ (given : Given) (opening : Opening) (store : Store) (board : Standing) 
           (all-append (λ (made : ℕ × Mutation). IsWrite made.1) board.window.mutations dated keeps.follows.writes (writes-dated batch.version own (writes-sent (value_of given.log newest) batch.mutations)));
       flown = keeps.follows.flown;
       leads = keeps.follows.leads;
+      lands = keeps.follows.lands;
       committed = keeps.follows.committed;
     };
   }
@@ -182,6 +182,6 @@ module _ (given : Given) (opening : Opening) (store : Store) (board : Standing) 
       made_of =
           ap (λ (w : Versions). w.mutations) one
           ∙ sealed-mutations After
-          ∙ sent-all given.log board.base durable newest batch.version next-is.above keeps.versions.base_is (λ mutation key now is_users. clip_inside mutation all_keys key now is_users)
+          ∙ sent-all given.log board.base durable newest batch.version next-is.above keeps.versions.base_is writing (λ mutation key now is_users. clip_inside mutation all_keys key now is_users)
           (begun batch.version board.window) (value_of given.log newest) batch.mutations
-          (making-first given.log durable newest board.window board.base keeps.versions batch next-is decided_above clip_inside)
+          (making-first given.log durable newest board.window board.base keeps.versions batch next-is writing clip_inside)

@@ -76,6 +76,7 @@ module _ (given : Given) (opening : Opening) (still : IsStill given opening) whe
       writes = subst (λ (w : Versions). AllByRecursion (λ (sent : ℕ × Mutation). IsWrite sent.1) w.mutations) (sym made) tt;
       flown = refl;
       leads = λ job is. absurd (cc (is));
+      lands = λ job is. absurd (cc (is));
       committed = λ key users. ap (λ (m : Map). value_at m key) (sym stored);
     };
   }

@@ -22,13 +22,12 @@ use Rattle.st_mutation.specs.declared.batch.Mutation.{Mutation}
 use Rattle.st_ops.specs.declared.op.Op.{Op}
 use Rattle.st_ptree.specs.Entries.{last_of}
 use Rattle.st_versioned.specs.Root.{value_at}
-use Rattle.st_versioned.specs.Window.{Stands, forgot, kept_from, last_to, mutations_to}
-use Rattle.st_versioned.specs.declared.window.Kept.{Kept}
+use Rattle.st_versioned.specs.Window.{Kept, Stands, forgot, kept_from, last_to, mutations_to}
 use Rattle.st_course.specs.Course.{Course, behind, clears_after, course_of, job_after}
 use Rattle.st_course.specs.Jobs.{clear_of, job_of, meta_of, op_of, rows_of}
 use Rattle.st_course.specs.Sent.{batches_between, value_of}
 use Rattle.st_course.specs.declared.job.CommitJob.{CommitJob}
-use Rattle.st_board.specs.Base.{Among, IsWrite, Store, value_behind}
+use Rattle.st_board.specs.Base.{Among, IsWrite, LeadTo, Store, value_behind}
 use Rattle.st_board.specs.Kept.{IsUsers, led_to}
 use Rattle.st_board.specs.Stands.{IsFlight, Keeps, Standing}
 use Rattle.st_board.proofs.Beginning.{all-assigned}
@@ -36,7 +35,7 @@ use Rattle.st_board.proofs.Between.{Climbs, among-above, between-above, climbs-b
 use Rattle.st_board.proofs.Forgetting.{kept-committed}
 use Rattle.st_board.proofs.Jobs.{behind-append, behind-stored}
 use Rattle.st_board.proofs.Lists.{all-filter, all-passing, same-number}
-use Rattle.st_board.proofs.Sending.{ops-led}
+use Rattle.st_board.proofs.Sending.{ops-led, ops-users}
 use Rattle.st_board.proofs.Traces.{CourseGoesOn, goes-on-more, legal-more}
 
 -- ---- the version that is due
@@ -183,6 +182,15 @@ module _ (given : Given) (opening : Opening) (store : Store) (board : Standing) 
       ops : List Op
       ops = flat_map (λ made. op_of made.1) (mutations_to version board.window)
 
+  -- it changes keys of users, and stores the state of its commit
+  job-lands : LeadTo (meta_of given flight) Job.ops
+  job-lands = record {
+    changes = flat_map (λ made. op_of made.1) (mutations_to version board.window);
+    whole = job-ops ∙ ap (λ clears. map clear_of clears ++ flat_map (λ made. op_of made.1) (mutations_to version board.window) ++ sets_of (stored (meta_of given flight))) keeps.follows.clears;
+    users = ops-users (mutations_to version board.window)
+        (all-filter (λ (made : ℕ × Mutation). IsWrite made.1) (λ made. nat_le made.0 version) board.window.mutations keeps.follows.writes);
+  }
+
   module _ (goes_on : CourseGoesOn) (due : commit_due given board.state ≡ true) (trace : List Event) (more : trace ≡ board.trace ++ Began version ∷ []) where
     is_flying : course_of given opening store.fresh trace ≡ Some Flying
     is_flying =
@@ -211,6 +219,9 @@ module _ (given : Given) (opening : Opening) (store : Store) (board : Standing) 
         flown = refl;
         leads = λ job is key users.
             subst (λ (j : CommitJob). value_behind key (value_at board.base key) j.ops ≡ value_of given.log j.version key) (same_Some Job job is) (job-leads key users);
+        lands = λ job is g in_flight.
+            subst (λ (j : CommitJob). LeadTo (meta_of given g) j.ops) (same_Some Job job is)
+            (subst (λ (o : Opening). LeadTo (meta_of given o) Job.ops) (same_Some flight g in_flight) job-lands);
         committed = keeps.follows.committed;
       };
     }
@@ -344,6 +355,7 @@ module _ (given : Given) (opening : Opening) (store : Store) (board : Standing) 
         writes = all-filter (λ (made : ℕ × Mutation). IsWrite made.1) (λ made. nat_lt (max board.window.forgotten f.version) made.0) board.window.mutations keeps.follows.writes;
         flown = refl;
         leads = λ other is. absurd (cc (is));
+        lands = λ other is. absurd (cc (is));
         committed = λ key users.
             based key users
             ∙ ap (λ v. value_behind key v job.ops) (keeps.follows.committed key users)

@@ -3,7 +3,6 @@ use Rattle.std.proofs.Common.{◌≡◌, ◌∙◌, ◌<◌, ◌++◌, ℕ, Bool
 use Rattle.std.specs.Option.{option_map}
 use Rattle.std.proofs.lemmas.Bool.{and_from, and_parts, both_ways, false_from_ne_true, false≢true, not-true}
 use Rattle.std.proofs.lemmas.Slice.Eq.{bytes_eq-Decides}
-use Rattle.std.proofs.lemmas.List.Sums.{fold-append}
 use Rattle.std.proofs.lemmas.Map.Text.{is_eq-slice_cmp}
 use Rattle.st_atomic.specs.Atomic.{changed}
 use Rattle.st_atomic.specs.declared.AtomicOp.{AtomicOp}
@@ -16,10 +15,8 @@ use Rattle.st_mutation.specs.declared.batch.Batch.{Batch}
 use Rattle.st_mutation.specs.declared.batch.Mutation.{Mutation}
 use Rattle.st_mutation.specs.declared.batch.Mutation.TheVariants.{Set, Clear, Atomic}
 use Rattle.st_mutation.specs.Effect.{value_by}
-use Rattle.st_versioned.specs.Root.{Decision, behind, decided, same}
-use Rattle.st_versioned.specs.declared.change.Change.{Change}
+use Rattle.st_versioned.specs.Root.{Decision, behind, same}
 use Rattle.st_versioned.specs.declared.change.Change.TheVariants as change
-use Rattle.st_versioned.specs.declared.change.Dated.{Dated}
 use Rattle.st_course.specs.Sent.{compares, result_as, stored_as}
 use Rattle.st_board.specs.Tells.{MakesTo}
 use Rattle.st_board.proofs.Telling.{makes-decided}
@@ -30,11 +27,6 @@ stored_value key now None = now
 stored_value key now (Some (Set other value)) = value_by key now (Set other value)
 stored_value key now (Some (Clear span)) = value_by key now (Clear span)
 stored_value key now (Some (Atomic op other operand)) = now
-
--- a change more decides a key, or leaves it
-pub decided-more : (root : List Dated) (version : ℕ) (change : Change) (key : List ℕ)
-    → decided (root ++ record { version = version; change = change } ∷ []) key ≡ behind (decided root key) version change key
-decided-more root version change key = fold-append (λ before dated. behind before dated.version dated.change key) None root (record { version = version; change = change } ∷ [])
 
 module _ (log : List Batch) (durable newest made : ℕ) (key : List ℕ) (later : newest < made) where
   -- a set and a clear do to what is decided what they do to the value

@@ -10,10 +10,8 @@ use Rattle.st_mutation.specs.Effect.{value_by}
 use Rattle.st_mutation.specs.declared.batch.Batch.{Batch}
 use Rattle.st_mutation.specs.declared.batch.Mutation.{Mutation}
 use Rattle.st_ptree.specs.Entries.{last_of}
-use Rattle.st_versioned.specs.Root.{Pairs, decided, value_at}
-use Rattle.st_versioned.specs.Window.{Stands, Versions, forgot, is_rising, kept_from, last_to, mutations_to, root_of}
-use Rattle.st_versioned.specs.declared.change.Dated.{Dated}
-use Rattle.st_versioned.specs.declared.window.Kept.{Kept}
+use Rattle.st_versioned.specs.Root.{Pairs, Row, decided, value_at}
+use Rattle.st_versioned.specs.Window.{Kept, Stands, Versions, forgot, is_rising, kept_from, last_to, mutations_to, root_of}
 use Rattle.st_board.specs.Kept.{IsUsers, KeepsVersions, NeverFall, led_to}
 use Rattle.st_board.specs.Tells.{TellsTo}
 use Rattle.st_course.specs.Sent.{value_of}
@@ -203,7 +201,7 @@ module _ (log : List Batch) (durable newest : ℕ) (window : Versions) (base : P
     in_order = never-fall-filter (λ made. nat_lt (max window.forgotten version) made.0) window.mutations keeps.in_order;
   }
     where
-      told : (later : ℕ) (key : List ℕ) → version ≤ later → (o : Option (List Dated)) → IfSome o (λ r. TellsTo log durable later key (decided r key)) → IfSome o (λ r. TellsTo log version later key (decided r key))
+      told : (later : ℕ) (key : List ℕ) → version ≤ later → (o : Option (List Row)) → IfSome o (λ r. TellsTo log durable later key (decided r key)) → IfSome o (λ r. TellsTo log version later key (decided r key))
       told later key low None is = tt
       told later key low (Some r) is = tells-durable log key durable version later (decided r key) first low is
 

@@ -3,10 +3,9 @@ use Rattle.std.proofs.Common.{◌≡◌, ◌∙◌, Option, Some, None, IsSome, 
 use Rattle.std.specs.Option.{option_map}
 use Rattle.st_mutation.specs.declared.batch.Mutation.{Mutation}
 use Rattle.st_mutation.specs.declared.batch.Mutation.TheVariants.{Set, Clear, Atomic}
-use Rattle.st_versioned.specs.Window.{Stands, Versions, abandoned, with_change, with_mutation}
+use Rattle.st_versioned.specs.Window.{Kept, Stands, Versions, abandoned, with_change, with_mutation}
 use Rattle.st_versioned.specs.declared.change.Change.{Change}
 use Rattle.st_versioned.specs.declared.change.Change.TheVariants as change
-use Rattle.st_versioned.specs.declared.window.Kept.{Kept}
 use Rattle.st_board.specs.Making.{GoesOn, IsGoing}
 use Rattle.st_board.specs.Storing.{with_stored}
 

@@ -1,6 +1,7 @@
 pub mod Lists
 pub mod Logs
 pub mod Telling
+pub mod Deciding
 pub mod Effects
 pub mod Stores
 pub mod Going

@@ -14,15 +14,16 @@ use Rattle.st_key.specs.Spans.{Span, all_keys, within}
 use Rattle.std.proofs.lemmas.Bool.{false≢true}
 use Rattle.std.proofs.lemmas.Option.{same_Some}
 use Rattle.st_ptree.specs.Entries.{last_of}
-use Rattle.st_versioned.specs.Root.{Pairs, decided, decision_above, over}
-use Rattle.st_versioned.specs.Window.{Stands, Versions, begun, is_dated, last_to, made_above, mutations_to, newest_root, root_of, sealed}
-use Rattle.st_versioned.specs.declared.change.Dated.{Dated}
-use Rattle.st_versioned.specs.declared.window.Kept.{Kept}
+use Rattle.st_versioned.specs.Apart.{AreApart}
+use Rattle.st_versioned.specs.Root.{Pairs, Row, decided, decision_above, over}
+use Rattle.st_versioned.specs.Writing.{made_above}
+use Rattle.st_versioned.specs.Window.{Kept, Stands, Versions, begun, last_to, mutations_to, newest_root, root_of, sealed}
 use Rattle.st_board.specs.Kept.{IsUsers, KeepsVersions, NeverFall, led_to}
 use Rattle.st_board.specs.Storing.{all_stored, making_root, stored_in, stored_parts, with_stored}
 use Rattle.st_board.specs.Stands.{all_served}
 use Rattle.st_board.specs.Tells.{TellsTo}
 use Rattle.st_course.specs.Sent.{stored_as, value_of}
+use Rattle.st_board.proofs.Deciding.{WritesDecide, apart-above}
 use Rattle.st_board.proofs.Lists.{all-append, all-last, all-weaker, filter-all, filter-none, last-is, last-more, last-none}
 use Rattle.st_board.proofs.Logs.{IsNext, value-between, value-next}
 use Rattle.st_board.proofs.Stores.{Making, SameButMaking, kept_at, making-all, noted, root_with, with-making, with-noted, with-same}
@@ -49,7 +50,7 @@ inside window version low high =
 -- what stored mutations add: they are of this version, and nothing else but the making changes
 pub record Adds (version : ℕ) (before after : Versions) : Type 0 where
   pub same : SameButMaking before after
-  pub root : List Dated
+  pub root : List Row
   pub is : after.making ≡ Some (kept_at version root)
   pub added : List (ℕ × Mutation)
   pub made : after.mutations ≡ before.mutations ++ added
@@ -104,7 +105,7 @@ adds-none window version = record {
 
 -- ---- the window with the version sealed
 
-abbrev pub sealed_window : Versions → (version : ℕ) → List Dated → List (ℕ × Mutation) → Versions
+abbrev pub sealed_window : Versions → (version : ℕ) → List Row → List (ℕ × Mutation) → Versions
 sealed_window window version root added = record {
   forgotten = window.forgotten;
   newest = version;
@@ -158,7 +159,7 @@ never-fall-more version (m ∷ ms) added order low at = (
   never-fall-more version ms added order.1 low.1 at,
 )
 
-module _ (log : List Batch) (durable newest : ℕ) (window : Versions) (base : Pairs) (keeps : KeepsVersions log durable newest window base) (batch : Batch) (next : IsNext log newest batch) (root : List Dated) (added : List (ℕ × Mutation)) (at : AllByRecursion (λ made. made.0 ≡ batch.version) added) where
+module _ (log : List Batch) (durable newest : ℕ) (window : Versions) (base : Pairs) (keeps : KeepsVersions log durable newest window base) (batch : Batch) (next : IsNext log newest batch) (root : List Row) (added : List (ℕ × Mutation)) (at : AllByRecursion (λ made. made.0 ≡ batch.version) added) where
   order : durable ≤ newest
   order = let a = keeps.stands.order in let b = keeps.forgotten_is in let c = keeps.newest_is in omega arith
 
@@ -238,7 +239,7 @@ module _ (log : List Batch) (durable newest : ℕ) (window : Versions) (base : P
           past_it : newest < version
           past_it = leb-false version newest is
 
-          later : (o : Option (List Dated)) → IfSome o (λ r. TellsTo log durable newest key (decided r key)) → IfSome o (λ r. TellsTo log durable version key (decided r key))
+          later : (o : Option (List Row)) → IfSome o (λ r. TellsTo log durable newest key (decided r key)) → IfSome o (λ r. TellsTo log durable version key (decided r key))
           later None told = tt
           later (Some r) told =
               tells-later log key durable newest version (decided r key) order (omega (arith, past_it))
@@ -265,7 +266,7 @@ module _ (log : List Batch) (durable newest : ℕ) (window : Versions) (base : P
 
 -- Where the versions that are kept are those of a log, and its next batch is stored in the version that it begins, the window
 -- that seals it keeps the next version too.
-module _ (log : List Batch) (durable newest : ℕ) (window : Versions) (base : Pairs) (keeps : KeepsVersions log durable newest window base) (batch : Batch) (next : IsNext log newest batch) (decided_above : (version last : ℕ) (r : List Dated) (key : List ℕ) → is_dated last r ≡ true → decided (made_above version r) key ≡ decision_above version (decided r key)) (clip_inside : (mutation : Mutation) (to : Span) (key : List ℕ) (before : Option (List ℕ)) → within to key ≡ true → value_by_part key before (clipped mutation to) ≡ value_by key before mutation) where
+module _ (log : List Batch) (durable newest : ℕ) (window : Versions) (base : Pairs) (keeps : KeepsVersions log durable newest window base) (batch : Batch) (next : IsNext log newest batch) (writing : WritesDecide) (clip_inside : (mutation : Mutation) (to : Span) (key : List ℕ) (before : Option (List ℕ)) → within to key ≡ true → value_by_part key before (clipped mutation to) ≡ value_by key before mutation) where
   then_order : durable ≤ newest
   then_order = let a = keeps.stands.order in let b = keeps.forgotten_is in let c = keeps.newest_is in omega arith
 
@@ -292,13 +293,21 @@ module _ (log : List Batch) (durable newest : ℕ) (window : Versions) (base : P
       by_last (Some kept) is told =
           subst (TellsTo log durable newest key)
           (ap (λ d. decision_above d (decided kept.root key)) (sym keeps.forgotten_is)
-          ∙ sym (decided_above window.forgotten kept.version kept.root key (all-last (λ k. is_dated k.version k.root ≡ true) window.roots kept keeps.stands.dated is)))
+          ∙ sym (writing.above window.forgotten kept.root key (all-last (λ k. AreApart k.root) window.roots kept keeps.stands.apart is)))
           (tells-above log key durable newest (decided kept.root key) told then_order)
+
+  newest-apart : AreApart (newest_root window)
+  newest-apart = subst AreApart (sym (newest-is window)) (by_last (last_of window.roots) refl)
+    where
+      by_last : (o : Option Kept) → last_of window.roots ≡ o → AreApart (option_map_or (λ kept. kept.root) o [])
+      by_last None is = tt
+      by_last (Some kept) is = all-last (λ k. AreApart k.root) window.roots kept keeps.stands.apart is
 
   pub making-first : (key : List ℕ) → IsUsers key → Making log base durable newest batch.version (begun batch.version window) key (value_of log newest key)
   making-first key users = record {
     root = made_above window.forgotten (newest_root window);
     is = refl;
+    apart = apart-above window.forgotten (newest_root window) newest-apart;
     makes = makes-first log key durable newest batch.version (decided (made_above window.forgotten (newest_root window)) key) then_order next.above (newest-tells key users);
     leads = ap (led_to key (value_of log durable key)) (sym (all-of log durable newest window base keeps batch next [] [] tt newest (omega arith))) ∙ keeps.leads newest key then_order (omega arith) users;
   }
@@ -312,7 +321,7 @@ module _ (log : List Batch) (durable newest : ℕ) (window : Versions) (base : P
   making : (key : List ℕ) → IsUsers key → Making log base durable newest batch.version After key (value_of log batch.version key)
   making key users =
       subst (Making log base durable newest batch.version After key) (sym (value-next log newest batch key next))
-      (making-all log base durable newest batch.version key next.above (keeps.base_is key users) (λ mutation now. clip_inside mutation all_keys key now users)
+      (making-all log base durable newest batch.version key next.above (keeps.base_is key users) writing (λ mutation now. clip_inside mutation all_keys key now users)
       (begun batch.version window) (value_of log newest key) batch.mutations (making-first key users))
 
   pub kept-applied : Stands (sealed After) → KeepsVersions log durable batch.version (sealed After) base

@@ -16,9 +16,10 @@ use Rattle.st_mutation.specs.declared.batch.Mutation.{Mutation}
 use Rattle.st_mutation.specs.declared.batch.Mutation.TheVariants.{Set, Clear, Atomic}
 use Rattle.st_versioned.specs.Root.{Pairs, over, value_at}
 use Rattle.st_versioned.specs.Window.{Versions}
-use Rattle.st_board.specs.Base.{IsWrite, all_served, value_behind}
+use Rattle.st_board.specs.Base.{IsOfUsers, IsWrite, all_served, value_behind}
 use Rattle.st_board.specs.Kept.{IsUsers, led_to}
 use Rattle.st_board.specs.Storing.{all_stored, making_root, stored_in, stored_parts}
+use Rattle.st_board.proofs.Deciding.{WritesDecide}
 use Rattle.st_board.proofs.Lists.{all-append}
 use Rattle.st_board.proofs.Logs.{IsNext, value-between}
 use Rattle.st_board.proofs.Stores.{Making, making-part, noted, value-now, with-noted}
@@ -52,30 +53,49 @@ noted-stored version (Atomic op key operand) before = by_result (before key) (ch
     by_result None None = refl
     by_result (Some value) None = refl
 
+-- the key of a set and of an atomic operation is a user's
+abbrev SetsUsers : Mutation → Type 0
+SetsUsers (Set key value) = IsUsers key
+SetsUsers (Clear span) = Unit {0}
+SetsUsers (Atomic op key operand) = IsUsers key
+
 -- and is a set or a clear
-writes-stored : (mutation : Mutation) (before : List ℕ → Option (List ℕ)) → AllByRecursion IsWrite (listed (stored_as mutation before))
-writes-stored (Set key value) before = (tt, tt)
-writes-stored (Clear span) before = (tt, tt)
-writes-stored (Atomic op key operand) before = by_result (before key) (changed op (before key) operand)
+writes-stored : (mutation : Mutation) (before : List ℕ → Option (List ℕ)) → SetsUsers mutation → AllByRecursion IsWrite (listed (stored_as mutation before))
+writes-stored (Set key value) before users = (users, tt)
+writes-stored (Clear span) before users = (tt, tt)
+writes-stored (Atomic op key operand) before users = by_result (before key) (changed op (before key) operand)
   where
     by_result : (old after : Option (List ℕ)) → AllByRecursion IsWrite (listed (result_as op key old after))
     by_result old (Some value) = by_test (compares op)
       where
         by_test : (t : Bool) → AllByRecursion IsWrite (listed (cond t None (Some (Set key value))))
         by_test true = tt
-        by_test false = (tt, tt)
+        by_test false = (users, tt)
     by_result None None = tt
     by_result (Some value) None = (tt, tt)
 
-writes-part : (before : List ℕ → Option (List ℕ)) (part : Option Mutation) → AllByRecursion IsWrite (stored_of_part before part)
-writes-part before None = tt
-writes-part before (Some part) = writes-stored part before
+writes-part : (before : List ℕ → Option (List ℕ)) (mutation : Mutation) → AllByRecursion IsWrite (stored_of_part before (clipped mutation all_keys))
+writes-part before (Set key value) = by_test (within all_keys key) refl
+  where
+    by_test : (t : Bool) → within all_keys key ≡ t → AllByRecursion IsWrite (stored_of_part before (cond t (Some (Set key value)) None))
+    by_test true is = writes-stored (Set key value) before is
+    by_test false is = tt
+writes-part before (Clear span) = by_part (common span all_keys)
+  where
+    by_part : (part : Option Span) → AllByRecursion IsWrite (stored_of_part before (option_map Clear part))
+    by_part None = tt
+    by_part (Some part) = (tt, tt)
+writes-part before (Atomic op key operand) = by_test (within all_keys key) refl
+  where
+    by_test : (t : Bool) → within all_keys key ≡ t → AllByRecursion IsWrite (stored_of_part before (cond t (Some (Atomic op key operand)) None))
+    by_test true is = writes-stored (Atomic op key operand) before is
+    by_test false is = tt
 
 pub writes-sent : (before : List ℕ → Option (List ℕ)) (mutations : List Mutation) → AllByRecursion IsWrite (sent_of users before mutations)
 writes-sent before [] = tt
 writes-sent before (mutation ∷ mutations) =
     all-append IsWrite (sent_to users before mutation) (sent_of users (λ key. value_by key (before key) mutation) mutations)
-    (writes-part before (clipped mutation all_keys))
+    (writes-part before mutation)
     (writes-sent (λ key. value_by key (before key) mutation) mutations)
 
 pub writes-dated : (version : ℕ) (mutations : List Mutation) → AllByRecursion IsWrite mutations → AllByRecursion (λ (sent : ℕ × Mutation). IsWrite sent.1) (map (λ m. (version, m)) mutations)
@@ -89,6 +109,13 @@ ops-led key before [] all = refl
 ops-led key before ((version, Set other value) ∷ sent) all = ops-led key (value_by key before (Set other value)) sent all.1
 ops-led key before ((version, Clear span) ∷ sent) all = ops-led key (value_by key before (Clear span)) sent all.1
 ops-led key before ((version, Atomic op other operand) ∷ sent) all = absurd all.0
+
+-- and change keys of users
+pub ops-users : (sent : List (ℕ × Mutation)) → AllByRecursion (λ (made : ℕ × Mutation). IsWrite made.1) sent → AllByRecursion IsOfUsers (flat_map (λ made. op_of made.1) sent)
+ops-users [] all = tt
+ops-users ((version, Set key value) ∷ sent) all = (all.0, ops-users sent all.1)
+ops-users ((version, Clear span) ∷ sent) all = (tt, ops-users sent all.1)
+ops-users ((version, Atomic op key operand) ∷ sent) all = absurd all.0
 
 -- ---- the mutations that a batch sends
 
@@ -111,7 +138,7 @@ part-same (Atomic op key operand) f g same = by_test (within all_keys key) refl
     by_test true is = ap (λ v. listed (result_as op key v (changed op v operand))) (same key is)
     by_test false is = refl
 
-module _ (log : List Batch) (base : Pairs) (durable newest version : ℕ) (later : newest < version) (has : (key : List ℕ) → IsUsers key → value_at base key ≡ value_of log durable key) (inside : (mutation : Mutation) (key : List ℕ) (now : Option (List ℕ)) → IsUsers key → value_by_part key now (clipped mutation all_keys) ≡ value_by key now mutation) where
+module _ (log : List Batch) (base : Pairs) (durable newest version : ℕ) (later : newest < version) (has : (key : List ℕ) → IsUsers key → value_at base key ≡ value_of log durable key) (writing : WritesDecide) (inside : (mutation : Mutation) (key : List ℕ) (now : Option (List ℕ)) → IsUsers key → value_by_part key now (clipped mutation all_keys) ≡ value_by key now mutation) where
   -- a window in the making, where these are the values now
   abbrev AllMaking : Versions → (List ℕ → Option (List ℕ)) → Type 0
   AllMaking window now = (key : List ℕ) → IsUsers key → Making log base durable newest version window key (now key)
@@ -140,7 +167,7 @@ module _ (log : List Batch) (base : Pairs) (durable newest version : ℕ) (later
   sent-all window now [] making = sym (append-nil window.mutations)
   sent-all window now (mutation ∷ mutations) making =
       sent-all next (λ key. value_by key (now key) mutation) mutations
-      (λ key is. making-part log base durable newest version key later (has key is) (λ m v. inside m key v is) window (now key) mutation (making key is))
+      (λ key is. making-part log base durable newest version key later (has key is) writing (λ m v. inside m key v is) window (now key) mutation (making key is))
       ∙ ap (λ l. l ++ map (λ m. (version, m)) rest) (sent-part window now mutation making)
       ∙ append_assoc window.mutations (map (λ m. (version, m)) first) (map (λ m. (version, m)) rest)
       ∙ ap (λ l. window.mutations ++ l) (sym (map-append (λ m. (version, m)) first rest))

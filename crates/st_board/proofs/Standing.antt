@@ -1,16 +1,15 @@
 -- What a board keeps shows what it stands for.
-use Rattle.std.proofs.Common.{◌≡◌, ◌∙◌, ◌≤◌, ◌<◌, ◌⊎◌, inl, inr, ◌||◌, ℕ, Bool, true, false, cond, nat_le, leb-true, le-leb, List, [], ◌∷◌, filter, Option, Some, None, IfSome, IsSomeAnd, refl, sym, ap, subst, arith}
+use Rattle.std.proofs.Common.{◌≡◌, ◌∙◌, ◌≤◌, ◌<◌, ◌⊎◌, inl, inr, ◌||◌, ℕ, Bool, true, false, cond, nat_le, leb-true, le-leb, List, [], ◌∷◌, filter, Option, Some, None, option_and_then, IfSome, IsSomeAnd, refl, sym, ap, subst, arith}
 use Rattle.std.specs.List.{list_any}
 use Rattle.std.specs.Option.{option_map, option_map_or, option_or}
 use Rattle.st_ptree.specs.Entries.{last_of}
-use Rattle.st_versioned.specs.Window.{last_to}
-use Rattle.st_versioned.specs.declared.window.Kept.{Kept}
+use Rattle.st_versioned.specs.Window.{Kept, last_to}
 use Rattle.st_board.proofs.Sealing.{inside}
 use Rattle.st_model.specs.State.{Given, Opening}
-use Rattle.st_versioned.specs.Root.{decided, over, value_at}
+use Rattle.st_versioned.specs.Root.{Row, decided, over, value_at}
 use Rattle.st_versioned.specs.Window.{root_of}
-use Rattle.st_versioned.specs.declared.change.Dated.{Dated}
 use Rattle.st_course.specs.Course.{Course}
+use Rattle.st_course.specs.declared.job.CommitJob.{CommitJob}
 use Rattle.st_board.specs.Base.{Store, value_behind}
 use Rattle.st_board.specs.Kept.{IsUsers}
 use Rattle.st_board.specs.Stands.{Keeps, Standing, StandsFor}
@@ -40,11 +39,14 @@ pub stands-for : (given : Given) (opening : Opening) (store : Store) (board : St
 stands-for given opening store board keeps = record {
   legal = keeps.legal;
   going_on = keeps.going_on;
+  pieces = keeps.pieces;
   versions = λ version key low high users.
       told version key (subst (λ d. d ≤ version) keeps.oldest low) users (root_of board.window version) (there version (subst (λ d. d ≤ version) keeps.oldest low) high) (keeps.versions.tells version key (subst (λ d. d ≤ version) keeps.oldest low) high users);
   base_is = keeps.versions.base_is;
   above = keeps.versions.above;
   flight = λ job in_flight key users. flight-leads given opening store board keeps job in_flight key users;
+  flown = ap (λ (o : Option Course). option_map (λ (j : CommitJob). j.version) (option_and_then (λ course. course.job) o)) keeps.is_course ∙ keeps.follows.flown;
+  lands = λ job in_flight. keeps.follows.lands job (sym (ap (option_and_then (λ (course : Course). course.job)) keeps.is_course) ∙ in_flight);
   committed = λ key users.
       keeps.follows.committed key users
       ∙ ap (λ o. value_behind key (value_at store.pairs key) (option_map_or (λ (course : Course). course.made) o [])) (sym keeps.is_course);
@@ -59,7 +61,7 @@ stands-for given opening store board keeps = record {
         by_last None none_is e = none_is refl
         by_last (Some kept) none_is e = cc (e)
 
-    told : (version : ℕ) (key : List ℕ) → board.state.durable ≤ version → IsUsers key → (o : Option (List Dated)) → (o ≡ None → ⊥) → IfSome o (λ r. TellsTo given.log board.state.durable version key (decided r key))
+    told : (version : ℕ) (key : List ℕ) → board.state.durable ≤ version → IsUsers key → (o : Option (List Row)) → (o ≡ None → ⊥) → IfSome o (λ r. TellsTo given.log board.state.durable version key (decided r key))
         → IsSomeAnd o (λ r. over r board.base key ≡ value_of given.log version key)
     told version key low users None none_is is = absurd (none_is refl)
     told version key low users (Some r) none_is is = tells-value given.log key board.state.durable version (value_at board.base key) (decided r key) low (keeps.versions.base_is key users) is

@@ -1,7 +1,10 @@
 -- What a base had at first, and what operations make of it.
-use Rattle.std.specs.Prelude.{◌≡◌, ◌⊎◌, ℕ, Bool, List, [], ◌∷◌, fold, Option, IsTrue}
+use Rattle.std.specs.Prelude.{◌≡◌, ◌⊎◌, ℕ, Bool, true, List, [], ◌∷◌, ◌++◌, fold, Option, IsTrue}
 use Rattle.std.specs.List.{AllByRecursion, list_all}
 use Rattle.st_fold.specs.Map.{Map}
+use Rattle.st_key.specs.Spans.{all_keys, within}
+use Rattle.st_meta.specs.Stored.{sets_of, stored}
+use Rattle.st_meta.specs.declared.state.Meta.{Meta}
 use Rattle.st_model.specs.declared.piece.Phase.TheVariants.{Readable}
 use Rattle.st_model.specs.declared.piece.Piece.{Piece}
 use Rattle.st_mutation.specs.Effect.{value_by}
@@ -20,9 +23,9 @@ abbrev pub Among : ℕ → List ℕ → Type 0
 Among version [] = ⊥
 Among version (other ∷ later) = (other ≡ version) ⊎ Among version later
 
--- a set or a clear
+-- a set of a user's key, or a clear
 abbrev pub IsWrite : Mutation → Type 0
-IsWrite (write.Set key value) = Unit {0}
+IsWrite (write.Set key value) = within all_keys key ≡ true
 IsWrite (write.Clear span) = Unit {0}
 IsWrite (write.Atomic op key operand) = ⊥
 
@@ -30,6 +33,20 @@ IsWrite (write.Atomic op key operand) = ⊥
 pub record AreChanges (ops : List Op) : Type 0 where
   pub changes : IsTrue (list_all is_change ops)
   pub fits : AllByRecursion Fits ops
+
+-- the same of an operation
+abbrev pub IsOfUsers : Op → Type 0
+IsOfUsers (Set key value) = within all_keys key ≡ true
+IsOfUsers (Clear begin end) = Unit {0}
+IsOfUsers (SnapItem key value) = ⊥
+IsOfUsers SnapEnd = ⊥
+IsOfUsers Commit = ⊥
+
+-- operations change keys of users, and at last store this state
+pub record LeadTo (meta : Meta) (ops : List Op) : Type 0 where
+  pub changes : List Op
+  pub whole : ops ≡ changes ++ sets_of (stored meta)
+  pub users : AllByRecursion IsOfUsers changes
 
 -- What a store had when a life opened: whether it had no frame, and the pairs of the available keys.
 pub record Store : Type 0 where

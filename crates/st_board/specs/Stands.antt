@@ -14,8 +14,9 @@ use Rattle.st_versioned.specs.Root.{over, value_at}
 use Rattle.st_versioned.specs.Window.{Versions, root_of}
 pub use Rattle.st_board.specs.Base.{all_served}
 use Rattle.st_course.specs.Course.{Course, course_of, job_after, made_after}
+use Rattle.st_course.specs.Jobs.{meta_of}
 use Rattle.st_course.specs.Sent.{batches_between, value_of}
-use Rattle.st_board.specs.Base.{Among, IsWrite, Store, value_behind}
+use Rattle.st_board.specs.Base.{Among, IsWrite, LeadTo, Store, value_behind}
 use Rattle.st_board.specs.Kept.{IsUsers, KeepsVersions}
 use Rattle.st_board.specs.Logs.{HasShortKey}
 
@@ -83,6 +84,8 @@ pub record Follows (given : Given) (store : Store) (board : Standing) (course : 
   -- the job in flight leads from the base to its version
   pub flown : option_map (λ job. job.version) course.job ≡ option_map (λ flight. flight.version) board.state.flight
   pub leads : ForSome course.job (λ job. (key : List ℕ) → IsUsers key → value_behind key (value_at board.base key) job.ops ≡ value_of given.log job.version key)
+  -- and changes keys of users, and stores the state of its commit
+  pub lands : ForSome course.job (λ job. ForSome board.state.flight (λ flight. LeadTo (meta_of given flight) job.ops))
   -- and the durable ones led to the base
   pub committed : (key : List ℕ) → IsUsers key → value_at board.base key ≡ value_behind key (value_at store.pairs key) course.made
 
@@ -108,6 +111,8 @@ pub record StandsFor (given : Given) (opening : Opening) (store : Store) (board 
   -- the trace is legal, and leads to the board's state
   pub legal : state_after given opening board.trace ≡ Some board.state
   pub going_on : list_any is_end board.trace ≡ false
+  -- all keys are served, since the log moves none
+  pub pieces : board.state.pieces ≡ all_served
   -- the map of each version that can be read is that of the log
   pub versions : (version : ℕ) (key : List ℕ) → board.state.oldest ≤ version → version ≤ board.state.newest → IsUsers key
       → IsSomeAnd (root_of board.window version) (λ root. over root board.base key ≡ value_of given.log version key)
@@ -118,5 +123,9 @@ pub record StandsFor (given : Given) (opening : Opening) (store : Store) (board 
   -- behind the job in flight the base is that of the job's version
   pub flight : ForSome (job_after given opening store.fresh board.trace)
       (λ job. (key : List ℕ) → IsUsers key → value_behind key (value_at board.base key) job.ops ≡ value_of given.log job.version key)
+  -- there is a job where there is a commit in flight, of its version
+  pub flown : option_map (λ job. job.version) (job_after given opening store.fresh board.trace) ≡ option_map (λ flight. flight.version) board.state.flight
+  -- which changes keys of users, and stores the state of its commit
+  pub lands : ForSome (job_after given opening store.fresh board.trace) (λ job. ForSome board.state.flight (λ flight. LeadTo (meta_of given flight) job.ops))
   -- the base has the pairs of the opening's store, changed by the jobs of the durable commits
   pub committed : IsCommitted given opening store board

@@ -7,10 +7,9 @@ use Rattle.st_model.specs.declared.piece.Piece.{Piece}
 use Rattle.st_mutation.specs.Clip.{clipped}
 use Rattle.st_mutation.specs.declared.batch.Mutation.{Mutation}
 use Rattle.st_mutation.specs.declared.batch.Mutation.TheVariants.{Set, Clear, Atomic}
-use Rattle.st_versioned.specs.Root.{Pairs, over}
+use Rattle.st_versioned.specs.Root.{Pairs, Row, over}
 use Rattle.st_versioned.specs.Window.{Versions, with_change, with_mutation}
 use Rattle.st_versioned.specs.declared.change.Change.TheVariants as change
-use Rattle.st_versioned.specs.declared.change.Dated.{Dated}
 
 -- the window in which it is stored
 abbrev pub with_stored : Option Mutation → Versions → Versions
@@ -20,7 +19,7 @@ with_stored (Some (Clear span)) window = with_change (change.Clear span) (with_m
 with_stored (Some (Atomic op key operand)) window = window
 
 -- the root of the version in the making
-abbrev pub making_root : Versions → List Dated
+abbrev pub making_root : Versions → List Row
 making_root window = option_map_or (λ kept. kept.root) window.making []
 
 -- the window behind a mutation

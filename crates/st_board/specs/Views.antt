@@ -22,7 +22,7 @@ pub record IsReadable (state : State) (span : Span) (version : ℕ) : Type 0 whe
 abbrev pub IsViewed : List Batch → State → Span → ℕ → Result View ViewRefusal → Type 0
 IsViewed log state span version (Ok view) =
     IsReadable state span version
-    × ((key : List ℕ) → within span key ≡ true → over view.root (pairs_of view.base) key ≡ value_of log version key)
+    × ((key : List ℕ) → within span key ≡ true → over (pairs_of view.root.entries) (pairs_of view.base) key ≡ value_of log version key)
 IsViewed log state span version (Err (why.TooOld oldest)) = (version < state.oldest) × (oldest ≡ state.oldest)
 IsViewed log state span version (Err (why.NotYet newest)) = (state.oldest ≤ version) × (state.newest < version) × (newest ≡ state.newest)
 IsViewed log state span version (Err (why.WrongShard at)) =

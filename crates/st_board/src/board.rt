@@ -16,7 +16,7 @@ use st_meta::Meta;
 use st_mutation::{Batch, clip_is_the_part_inside};
 use st_ptree::PTree;
 use st_shards::ShardMap;
-use st_versioned::{Window, decisions_above_stay};
+use st_versioned::{Window, decisions_above_stay, what_is_written_decides};
 use std::alloc::{AllocError, Global};
 use std::marker::{Brand, Model, PhantomData};
 use std::sync::ledger::Blank;
@@ -148,7 +148,7 @@ impl<N: Story> Board<N> {
     fn shared(&self, version: u64) -> Result<View, AllocError>
         requires oldest { self.now.state.oldest ≤ version }
         requires newest { version ≤ self.now.state.newest }
-        ensures { IfOk result (λ view. (key : List ℕ) → IsUsers key → over view.root (pairs_of view.base) key ≡ value_of N.given.log version key) }
+        ensures { IfOk result (λ view. (key : List ℕ) → IsUsers key → over (pairs_of view.root.entries) (pairs_of view.base) key ≡ value_of N.given.log version key) }
     {
         match self.window.root_at(version)? {
             Some(root) => Ok(View {
@@ -250,6 +250,7 @@ impl<N: Story> Board<N> {
     {
         course_goes_on();
         decisions_above_stay();
+        what_is_written_decides();
         clip_is_the_part_inside();
         self.trace.reserve(3)?;
         put_next::<Brand>(
@@ -288,6 +289,7 @@ impl<N: Story> Board<N> {
         ensures due { IfOk result (λ taken. is_some taken ≡ commit_due N.given self.old.state) }
         ensures began { IfOk result (λ taken. IfSome taken (λ job. self.new.trace ≡ self.old.trace ++ event.Began job.version ∷ [])) }
         ensures state { IfOk result (λ taken. IfSome taken (λ job. self.new.state ≡ began N.given self.old.state job.version)) }
+        ensures version { IfOk result (λ taken. IfSome taken (λ job. job.version ≡ commit_version N.given self.old.state)) }
         ensures job { IfOk result (λ taken. IfSome taken (λ job. job_after N.given N.opening N.store.fresh self.new.trace ≡ Some job)) }
         ensures changes { IfOk result (λ taken. IfSome taken (λ job. AreChanges job.ops)) }
         ensures stored { IfOk result (λ taken. IfSome taken (λ job. ForSome self.new.state.flight (λ flight. IsState (meta_of N.given flight)))) }
@@ -305,6 +307,7 @@ impl<N: Story> Board<N> {
         requires { IsTrue (commit_due N.given self.old.state) }
         ensures began { IfOk result (λ job. self.new.trace ≡ self.old.trace ++ event.Began job.version ∷ []) }
         ensures state { IfOk result (λ job. self.new.state ≡ began N.given self.old.state job.version) }
+        ensures version { IfOk result (λ job. job.version ≡ commit_version N.given self.old.state) }
         ensures job { IfOk result (λ job. job_after N.given N.opening N.store.fresh self.new.trace ≡ Some job) }
         ensures changes { IfOk result (λ job. AreChanges job.ops) }
         ensures stored { IfOk result (λ job. ForSome self.new.state.flight (λ flight. IsState (meta_of N.given flight))) }

@@ -28,45 +28,43 @@ same_equal a b is = exact_bytes a b (equal (key_cmp a b) is)
 pub same_itself : (a : List ℕ) → same a a ≡ true
 same_itself a = ap is_eq (tied_itself nat_list_cmp_total a)
 
-abbrev Entries : Type 0
-Entries = List (List ℕ × (ℕ × List ℕ))
+module _ {X : Type 0} where
+  -- a pair that was found has the key of the entry that it is
+  pub keys-alike : {A : Type 0} (pair : A → List ℕ × X) (r : Option A) (x : Option (List ℕ × (ℕ × X))) → option_map pair r ≡ option_map pair_of x
+      → option_map (λ a. (pair a).0) r ≡ option_map (λ e. e.0) x
+  keys-alike pair None None is = refl
+  keys-alike pair None (Some e) is = absurd (cc (is))
+  keys-alike pair (Some a) None is = absurd (cc (is))
+  keys-alike pair (Some a) (Some e) is = let one : pair a ≡ pair_of e = same_Some (pair a) (pair_of e) is in ap (λ (p : List ℕ × X). Some p.0) one
 
--- a pair that was found has the key of the entry that it is
-pub keys-alike : {A : Type 0} (pair : A → List ℕ × List ℕ) (r : Option A) (x : Option (List ℕ × (ℕ × List ℕ))) → option_map pair r ≡ option_map pair_of x
-    → option_map (λ a. (pair a).0) r ≡ option_map (λ e. e.0) x
-keys-alike pair None None is = refl
-keys-alike pair None (Some e) is = absurd (cc (is))
-keys-alike pair (Some a) None is = absurd (cc (is))
-keys-alike pair (Some a) (Some e) is = let one : pair a ≡ pair_of e = same_Some (pair a) (pair_of e) is in ap (λ (p : List ℕ × List ℕ). Some p.0) one
+  all-keys : (P : List ℕ → Type 0) (es : List (List ℕ × (ℕ × X))) → AllByRecursion (λ e. P e.0) es → AllByRecursion P (keys_of (pairs_of es))
+  all-keys P [] all = tt
+  all-keys P (e ∷ es) all = (all.0, all-keys P es all.1)
 
-all-keys : (P : List ℕ → Type 0) (es : Entries) → AllByRecursion (λ e. P e.0) es → AllByRecursion P (keys_of (pairs_of es))
-all-keys P [] all = tt
-all-keys P (e ∷ es) all = (all.0, all-keys P es all.1)
+  contains-key : (es : List (List ℕ × (ℕ × X))) (e : List ℕ × (ℕ × X)) (i : ℕ) → i < length es → get_or es i e ≡ e → Contains (keys_of (pairs_of es)) e.0
+  contains-key [] e i inside is = absurd (omega arith)
+  contains-key (f ∷ es) e zero inside is = (0, omega arith, ap (λ (x : List ℕ × (ℕ × X)). x.0) is)
+  contains-key (f ∷ es) e (suc i) inside is =
+      let later = contains-key es e i (omega arith) is in
+      (suc later.0, omega (arith, later.1), later.2)
 
-contains-key : (es : Entries) (e : List ℕ × (ℕ × List ℕ)) (i : ℕ) → i < length es → get_or es i e ≡ e → Contains (keys_of (pairs_of es)) e.0
-contains-key [] e i inside is = absurd (omega arith)
-contains-key (f ∷ es) e zero inside is = (0, omega arith, ap (λ (x : List ℕ × (ℕ × List ℕ)). x.0) is)
-contains-key (f ∷ es) e (suc i) inside is =
-    let later = contains-key es e i (omega arith) is in
-    (suc later.0, omega (arith, later.1), later.2)
+  pub first-least : (keeps : List ℕ → Bool) (es : List (List ℕ × (ℕ × X))) (x : Option (List ℕ × (ℕ × X))) → MatchOption x (HaveNone keeps es) (IsLeast keeps es)
+      → IsFirstKey key_less keeps (keys_of (pairs_of es)) (option_map (λ e. e.0) x)
+  first-least keeps es None none = all-keys (λ key. keeps key ≡ false) es none
+  first-least keeps es (Some e) least = record {
+    among = contains-key es e least.among.0 least.among.1 least.among.2;
+    passing = least.passes;
+    before = all-keys (λ key. keeps key ≡ true → key_less key e.0 ≡ false) es least.least;
+  }
 
-pub first-least : (keeps : List ℕ → Bool) (es : Entries) (x : Option (List ℕ × (ℕ × List ℕ))) → MatchOption x (HaveNone keeps es) (IsLeast keeps es)
-    → IsFirstKey key_less keeps (keys_of (pairs_of es)) (option_map (λ e. e.0) x)
-first-least keeps es None none = all-keys (λ key. keeps key ≡ false) es none
-first-least keeps es (Some e) least = record {
-  among = contains-key es e least.among.0 least.among.1 least.among.2;
-  passing = least.passes;
-  before = all-keys (λ key. keeps key ≡ true → key_less key e.0 ≡ false) es least.least;
-}
-
-pub first-greatest : (keeps : List ℕ → Bool) (es : Entries) (x : Option (List ℕ × (ℕ × List ℕ))) → MatchOption x (HaveNone keeps es) (IsGreatest keeps es)
-    → IsFirstKey key_above keeps (keys_of (pairs_of es)) (option_map (λ e. e.0) x)
-first-greatest keeps es None none = all-keys (λ key. keeps key ≡ false) es none
-first-greatest keeps es (Some e) greatest = record {
-  among = contains-key es e greatest.among.0 greatest.among.1 greatest.among.2;
-  passing = greatest.passes;
-  before = all-keys (λ key. keeps key ≡ true → key_less e.0 key ≡ false) es greatest.greatest;
-}
+  pub first-greatest : (keeps : List ℕ → Bool) (es : List (List ℕ × (ℕ × X))) (x : Option (List ℕ × (ℕ × X))) → MatchOption x (HaveNone keeps es) (IsGreatest keeps es)
+      → IsFirstKey key_above keeps (keys_of (pairs_of es)) (option_map (λ e. e.0) x)
+  first-greatest keeps es None none = all-keys (λ key. keeps key ≡ false) es none
+  first-greatest keeps es (Some e) greatest = record {
+    among = contains-key es e greatest.among.0 greatest.among.1 greatest.among.2;
+    passing = greatest.passes;
+    before = all-keys (λ key. keeps key ≡ true → key_less e.0 key ≡ false) es greatest.greatest;
+  }
 
 all-mapped : {X : Type 0} (P Q : X → Type 0) → ((x : X) → P x → Q x) → (xs : List X) → AllByRecursion P xs → AllByRecursion Q xs
 all-mapped P Q leads [] all = tt

@@ -1,13 +1,10 @@
 -- The first of keys beyond a bound.
-use Rattle.std.proofs.Common.{◌≡◌, ◌∙◌, ◌+◌, ◌<◌, ℕ, Bool, true, false, cond, List, [], ◌∷◌, ◌++◌, length, get_or, take, Option, Some, None, refl, sym, ap, arith}
+use Rattle.std.proofs.Common.{◌≡◌, ◌∙◌, ℕ, Bool, true, false, cond, List, [], ◌∷◌, ◌++◌, Option, Some, None, refl, sym, ap, arith}
 use Rattle.std.proofs.lemmas.Bool.{false≢true}
-use Rattle.std.proofs.lemmas.Grind.{flat_map-append}
-use Rattle.std.proofs.lemmas.List.{append-nil, take_more}
 use Rattle.std.proofs.lemmas.List.Elements.{Contains-append_left, Contains-append_right}
 use Rattle.std.specs.List.{AllByRecursion}
 use Rattle.st_key.specs.KeyOrder.{less_connected, less_irrefl, less_trans}
-use Rattle.st_versioned.specs.Neighbours.{IsFirstKey, IsFirstOf, first_by, first_of_two, is_beyond, set_key, set_keys}
-use Rattle.st_versioned.specs.declared.change.Dated.{Dated}
+use Rattle.st_versioned.specs.Neighbours.{IsFirstKey, IsFirstOf, first_by, first_of_two, is_beyond}
 use Rattle.st_versioned.specs.declared.bound.Bound.{Bound}
 use Rattle.st_versioned.specs.declared.bound.Bound.TheVariants.{From, Above, Below}
 
@@ -92,12 +89,3 @@ first-alone bound key beyond = record {
   passing = beyond;
   before = (λ _. first_irrefl bound key, tt);
 }
-
--- one change more
-pub set_keys-more : (changes : List Dated) (i : ℕ) (dated : Dated) → i < length changes → dated ≡ get_or changes i dated
-    → set_keys (take (i + 1) changes) ≡ set_keys (take i changes) ++ set_key dated.change
-set_keys-more changes i dated inside is =
-    ap set_keys (take_more changes i dated inside)
-    ∙ flat_map-append (λ (d : Dated). set_key d.change) (take i changes) (get_or changes i dated ∷ [])
-    ∙ ap (λ (l : List (List ℕ)). set_keys (take i changes) ++ l) (append-nil (set_key (get_or changes i dated).change))
-    ∙ ap (λ (d : Dated). set_keys (take i changes) ++ set_key d.change) (sym is)

@@ -1,7 +1,12 @@
-pub mod Above
-pub mod Later
 pub mod Bases
+pub mod Bottoms
+pub mod Changes
+pub mod Cutting
 pub mod Firsts
+pub mod Forgetting
+pub mod Lasts
+pub mod Puts
+pub mod Reaching
 pub mod Rows
 pub mod Search
 pub mod Windows

@@ -1,19 +1,20 @@
 -- One step of the search for a neighbour.
-use Rattle.std.proofs.Common.{◌≡◌, ◌∙◌, ◌<◌, ◌≤◌, ℕ, zero, suc, Bool, true, false, cond, not, List, [], ◌∷◌, ◌++◌, filter, fold, length, get_or, Option, Some, None, refl, sym, ap, subst, arith}
+use Rattle.std.proofs.Common.{◌⊎◌, inl, inr, ◌≡◌, ◌∙◌, ◌<◌, ◌≤◌, ℕ, zero, suc, Bool, true, false, cond, not, List, [], ◌∷◌, ◌++◌, filter, length, get_or, Option, Some, None, refl, sym, ap, subst, arith}
 use Rattle.std.proofs.lemmas.Bool.{false_from_ne_true, false≢true, not-true}
 use Rattle.std.specs.Borrow.{Bor}
 use Rattle.std.specs.List.{AllByRecursion}
 use Rattle.std.specs.Option.{unwrap_or}
 use Rattle.st_key.specs.KeyOrder.{le_less_trans, less_asym, less_trans}
-use Rattle.st_key.specs.Spans.{key_less, within}
-use Rattle.st_versioned.specs.Neighbours.{IsFirst, IsFirstKey, IsFirstOf, bound_behind, first_by, first_of_two, is_beyond, keys_of, set_key, set_keys}
-use Rattle.st_versioned.specs.Root.{Decision, Pairs, behind, decided, over, same, told, value_at}
+use Rattle.st_key.specs.Spans.{key_less}
+use Rattle.st_versioned.specs.Neighbours.{IsFirst, IsFirstKey, IsFirstOf, bound_behind, first_by, first_of_two, is_beyond, keys_of}
+use Rattle.st_versioned.specs.Root.{Decision, Pairs, Row, decided, decided_by, over, reaches, same, told, value_at, value_in}
 use Rattle.st_versioned.specs.declared.bound.Bound.{Bound}
 use Rattle.st_versioned.specs.declared.bound.Bound.TheVariants.{From, Above, Below}
-use Rattle.st_versioned.specs.declared.change.Change.{Change}
-use Rattle.st_versioned.specs.declared.change.Change.TheVariants.{Set, Clear, Erase}
-use Rattle.st_versioned.specs.declared.change.Dated.{Dated}
+use Rattle.st_versioned.specs.declared.entry.Entry.{Entry}
+use Rattle.st_versioned.specs.declared.entry.Entry.TheVariants.{Value, ClearTo}
+use Rattle.st_versioned.proofs.Reaching.{In, last-in, upto}
 use Rattle.st_versioned.proofs.Bases.{same_equal, same_itself}
+use Rattle.st_ptree.specs.Entries.{last_of}
 use Rattle.st_versioned.proofs.Firsts.{first-both, first_connected, first_irrefl}
 
 -- a value is decided
@@ -21,25 +22,6 @@ abbrev is_valued : Decision → Bool
 is_valued None = false
 is_valued (Some (version, None)) = false
 is_valued (Some (version, Some value)) = true
-
--- changes that set no such key decide no value for it
-none-behind : (key : List ℕ) (d : Decision) (version : ℕ) (change : Change) → is_valued d ≡ false → AllByRecursion (λ k. same k key ≡ false) (set_key change) → is_valued (behind d version change key) ≡ false
-none-behind key d version (Set set value) before absent =
-    ap (λ (t : Bool). is_valued (cond t (Some (version, Some value)) d)) (other (same key set) refl) ∙ before
-  where
-    other : (t : Bool) → same key set ≡ t → same key set ≡ false
-    other true is = absurd (false≢true (sym absent.0 ∙ ap (λ (x : List ℕ). same set x) (same_equal key set is) ∙ same_itself set))
-    other false is = is
-none-behind key d version (Clear span) before absent = by_test (within span key)
-  where
-    by_test : (t : Bool) → is_valued (cond t (Some (version, None)) d) ≡ false
-    by_test true = refl
-    by_test false = before
-none-behind key d version (Erase span) before absent = by_test (within span key)
-  where
-    by_test : (t : Bool) → is_valued (cond t None d) ≡ false
-    by_test true = refl
-    by_test false = before
 
 all-left : {X : Type 0} (P : X → Type 0) (xs ys : List X) → AllByRecursion P (xs ++ ys) → AllByRecursion P xs
 all-left P [] ys all = tt
@@ -49,13 +31,32 @@ all-right : {X : Type 0} (P : X → Type 0) (xs ys : List X) → AllByRecursion 
 all-right P [] ys all = all
 all-right P (x ∷ xs) ys all = all-right P xs ys all.1
 
-none-decided : (key : List ℕ) (changes : List Dated) (d : Decision) → is_valued d ≡ false → AllByRecursion (λ k. same k key ≡ false) (set_keys changes)
-    → is_valued (fold (λ before dated. behind before dated.version dated.change key) d changes) ≡ false
-none-decided key [] d before absent = before
-none-decided key (dated ∷ changes) d before absent =
-    none-decided key changes (behind d dated.version dated.change key)
-    (none-behind key d dated.version dated.change before (all-left (λ k. same k key ≡ false) (set_key dated.change) (set_keys changes) absent))
-    (all-right (λ k. same k key ≡ false) (set_key dated.change) (set_keys changes) absent)
+in-keys : (P : List ℕ → Type 0) (rows : List Row) (row : Row) → AllByRecursion P (keys_of rows) → In row rows → P row.0
+in-keys P [] row all there = absurd there
+in-keys P (other ∷ rows) row all (inl is) = subst (λ (r : Row). P r.0) is all.0
+in-keys P (other ∷ rows) row all (inr there) = in-keys P rows row all.1 there
+
+-- rows that have no such key decide no value for it
+none-decided : (key : List ℕ) (rows : List Row) → AllByRecursion (λ k. same k key ≡ false) (keys_of rows) → is_valued (decided rows key) ≡ false
+none-decided key rows absent = by_last (last_of (upto key rows)) refl
+  where
+    by_entry : (at : List ℕ) (version : ℕ) (entry : Entry) → same at key ≡ false → is_valued (cond (reaches key at entry) (Some (version, value_in entry)) None) ≡ false
+    by_entry at version (Value value) off = ap (λ (t : Bool). is_valued (cond t (Some (version, Some value)) None)) (other (same key at) refl)
+      where
+        other : (t : Bool) → same key at ≡ t → same key at ≡ false
+        other true is = absurd (false≢true (sym off ∙ ap (λ (x : List ℕ). same at x) (same_equal key at is) ∙ same_itself at))
+        other false is = is
+    by_entry at version (ClearTo end) off = by_test (key_less key end)
+      where
+        by_test : (t : Bool) → is_valued (cond t (Some (version, None)) None) ≡ false
+        by_test true = refl
+        by_test false = refl
+
+    by_last : (o : Option Row) → last_of (upto key rows) ≡ o → is_valued (decided_by key o) ≡ false
+    by_last None none = refl
+    by_last (Some row) last =
+        by_entry row.0 row.1.version row.1.entry
+        (in-keys (λ k. same k key ≡ false) rows row absent (last-in (λ (r : Row). not (key_less key r.0)) rows row last).0)
 
 none-found : (key : List ℕ) (base : Pairs) → AllByRecursion (λ k. same k key ≡ false) (keys_of base) → value_at base key ≡ None
 none-found key [] absent = refl
@@ -67,15 +68,15 @@ none-found key (pair ∷ base) absent =
     other false is = is
 
 -- the keys that may have a value over a base
-abbrev pub candidates : List Dated → Pairs → List (List ℕ)
-candidates root base = set_keys root ++ keys_of base
+abbrev pub candidates : List Row → Pairs → List (List ℕ)
+candidates root base = keys_of root ++ keys_of base
 
-none-over : (root : List Dated) (base : Pairs) (key : List ℕ) → AllByRecursion (λ k. same k key ≡ false) (candidates root base) → over root base key ≡ None
+none-over : (root : List Row) (base : Pairs) (key : List ℕ) → AllByRecursion (λ k. same k key ≡ false) (candidates root base) → over root base key ≡ None
 none-over root base key absent =
-    by_decision (decided root key) (none-decided key root None refl (all-left (λ k. same k key ≡ false) (set_keys root) (keys_of base) absent))
+    by_decision (decided root key) (none-decided key root (all-left (λ k. same k key ≡ false) (keys_of root) (keys_of base) absent))
   where
     by_decision : (d : Decision) → is_valued d ≡ false → unwrap_or (told d) (value_at base key) ≡ None
-    by_decision None valued = none-found key base (all-right (λ k. same k key ≡ false) (set_keys root) (keys_of base) absent)
+    by_decision None valued = none-found key base (all-right (λ k. same k key ≡ false) (keys_of root) (keys_of base) absent)
     by_decision (Some (version, None)) valued = refl
     by_decision (Some (version, Some value)) valued = absurd (false≢true (sym valued))
 
@@ -118,7 +119,7 @@ first_or bound a b ab other = by_test (first_by bound b a) refl
     by_test true is = is
     by_test false is = absurd (other (first_connected bound a b ab is))
 
-module _ (root : List Dated) (base : Pairs) (bound : Bound) where
+module _ (root : List Row) (base : Pairs) (bound : Bound) where
   abbrev keys : List (List ℕ)
   keys = candidates root base
 
@@ -158,19 +159,19 @@ beyond-trans (Above key) c k beyond before = less_trans key.now c k beyond befor
 beyond-trans (Below key) c k beyond before = less_trans k c key.now before beyond
 
 -- The search so far: the side that is left is a part of the bound's, in its order, and no key of the rest has a value.
-pub record Searched (root : List Dated) (base : Pairs) (bound side : Bound) : Type 0 where
+pub record Searched (root : List Row) (base : Pairs) (bound side : Bound) : Type 0 where
   pub within : (key : List ℕ) → is_beyond side key ≡ true → is_beyond bound key ≡ true
   pub passed : (key : List ℕ) → is_beyond bound key ≡ true → is_beyond side key ≡ false → over root base key ≡ None
   pub order : (a b : List ℕ) → first_by side a b ≡ first_by bound a b
 
-pub searched-none : (root : List Dated) (base : Pairs) (bound : Bound) → Searched root base bound bound
+pub searched-none : (root : List Row) (base : Pairs) (bound : Bound) → Searched root base bound bound
 searched-none root base bound = record {
   within = λ key beyond. beyond;
   passed = λ key on off. absurd (false≢true (sym off ∙ on));
   order = λ a b. refl;
 }
 
-module _ (root : List Dated) (base : Pairs) (bound side : Bound) (searched : Searched root base bound side) where
+module _ (root : List Row) (base : Pairs) (bound side : Bound) (searched : Searched root base bound side) where
   pub searched-all : AllByRecursion (λ k. is_beyond side k ≡ false) (candidates root base) → (key : List ℕ) → is_beyond bound key ≡ true → over root base key ≡ None
   searched-all none key beyond = by_side (is_beyond side key) refl
     where
@@ -214,8 +215,8 @@ module _ (root : List Dated) (base : Pairs) (bound side : Bound) (searched : Sea
       (beyond-behind side c c.now ∙ first_irrefl side c.now) first.passing
 
 -- the first of both sources is the first candidate
-pub first-candidate : (root : List Dated) (base : Pairs) (side : Bound) (set in_base found : Option (List ℕ)) → found ≡ first_of_two side set in_base
-    → IsFirstKey (first_by side) (is_beyond side) (set_keys root) set → IsFirstKey (first_by side) (is_beyond side) (keys_of base) in_base
+pub first-candidate : (root : List Row) (base : Pairs) (side : Bound) (set in_base found : Option (List ℕ)) → found ≡ first_of_two side set in_base
+    → IsFirstKey (first_by side) (is_beyond side) (keys_of root) set → IsFirstKey (first_by side) (is_beyond side) (keys_of base) in_base
     → IsFirstKey (first_by side) (is_beyond side) (candidates root base) found
 first-candidate root base side set in_base found is first second =
-    subst (λ (o : Option (List ℕ)). IsFirstKey (first_by side) (is_beyond side) (candidates root base) o) (sym is) (first-both side (set_keys root) (keys_of base) set in_base first second)
+    subst (λ (o : Option (List ℕ)). IsFirstKey (first_by side) (is_beyond side) (candidates root base) o) (sym is) (first-both side (keys_of root) (keys_of base) set in_base first second)

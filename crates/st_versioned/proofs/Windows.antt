@@ -1,69 +1,17 @@
 -- What a window keeps of itself.
-use Rattle.std.proofs.Common.{◌≡◌, ◌∙◌, ◌≤◌, ◌<◌, ◌&&◌, ◌||◌, ◌++◌, ◌-◌, ◌+◌, ℕ, zero, suc, max, Bool, true, false, cond, get_or, take, nat_le, nat_lt, leb-true, le-leb, List, [], ◌∷◌, filter, length, Option, Some, None, Result, Ok, Err, OnOk, OnErr, refl, sym, ap, subst, arith}
+use Rattle.std.proofs.Common.{◌≡◌, ◌∙◌, ◌≤◌, ◌<◌, ◌&&◌, ◌||◌, ◌++◌, ◌-◌, ◌+◌, ℕ, zero, suc, max, Bool, true, false, cond, get_or, take, nat_le, nat_lt, leb-true, le-leb, List, [], ◌∷◌, filter, length, Option, Some, None, refl, sym, ap, subst, arith}
 use Rattle.std.proofs.lemmas.Bool.{and_from, and_parts, false_from_ne_true, false≢true, lt-leb}
 use Rattle.std.proofs.lemmas.List.{append-nil, take_more}
 use Rattle.std.specs.List.{AllByRecursion, list_all, list_any, slice_get}
 use Rattle.std.specs.Option.{ForSome, option_map, option_map_or, option_or}
 use Rattle.st_mutation.specs.declared.batch.Mutation.{Mutation}
 use Rattle.st_ptree.specs.Entries.{last_of}
-use Rattle.st_versioned.specs.Window.{Stands, Versions, abandoned, begun, changed, forgot, is_dated, is_rising, kept_from, last_to, latest, made_above, newest_root, with_change, with_mutation}
+use Rattle.st_versioned.specs.Apart.{AreApart, HasKey}
+use Rattle.st_versioned.specs.Window.{Stands, Versions, abandoned, begun, changed, forgot, is_rising, Kept, kept_from, last_to, latest, newest_root, with_change, with_mutation}
 use Rattle.st_versioned.specs.declared.change.Change.{Change}
-use Rattle.st_versioned.specs.declared.change.Dated.{Dated}
-use Rattle.st_versioned.specs.declared.window.Kept.{Kept}
-
--- changes that are dated to a version are so to each later one
-dated-later : (low high : ℕ) → low ≤ high → (changes : List Dated) → is_dated low changes ≡ true → is_dated high changes ≡ true
-dated-later low high le [] dated = refl
-dated-later low high le (d ∷ later) dated =
-    let one = and_parts (nat_le d.version low && list_all (λ other. nat_le d.version other.version) later) (is_dated low later) dated in
-    let two = and_parts (nat_le d.version low) (list_all (λ other. nat_le d.version other.version) later) one.0 in
-    let small : d.version ≤ low = leb-true _ _ two.0 in
-    and_from (nat_le d.version high && list_all (λ other. nat_le d.version other.version) later) (is_dated high later)
-    (and_from (nat_le d.version high) (list_all (λ other. nat_le d.version other.version) later) (le-leb _ _ (omega arith)) two.1)
-    (dated-later low high le later one.1)
-
-all-filter : (p q : Dated → Bool) (changes : List Dated) → list_all q changes ≡ true → list_all q (filter p changes) ≡ true
-all-filter p q [] all = refl
-all-filter p q (d ∷ later) all =
-    let parts = and_parts (q d) (list_all q later) all in
-    by_test (p d) (all-filter p q later parts.1) parts.0
-  where
-    by_test : (t : Bool) → list_all q (filter p later) ≡ true → q d ≡ true → list_all q (cond t (d ∷ filter p later) (filter p later)) ≡ true
-    by_test true rest here = and_from (q d) (list_all q (filter p later)) here rest
-    by_test false rest here = rest
-
-dated-filter : (version : ℕ) (p : Dated → Bool) (changes : List Dated) → is_dated version changes ≡ true → is_dated version (filter p changes) ≡ true
-dated-filter version p [] dated = refl
-dated-filter version p (d ∷ later) dated = by_test (p d) (dated-filter version p later one.1)
-  where
-    one : ((nat_le d.version version && list_all (λ other. nat_le d.version other.version) later) ≡ true) × (is_dated version later ≡ true)
-    one = and_parts (nat_le d.version version && list_all (λ other. nat_le d.version other.version) later) (is_dated version later) dated
-
-    two : (nat_le d.version version ≡ true) × (list_all (λ other. nat_le d.version other.version) later ≡ true)
-    two = and_parts (nat_le d.version version) (list_all (λ other. nat_le d.version other.version) later) one.0
-
-    by_test : (t : Bool) → is_dated version (filter p later) ≡ true → is_dated version (cond t (d ∷ filter p later) (filter p later)) ≡ true
-    by_test true rest =
-        and_from (nat_le d.version version && list_all (λ other. nat_le d.version other.version) (filter p later)) (is_dated version (filter p later))
-        (and_from (nat_le d.version version) (list_all (λ other. nat_le d.version other.version) (filter p later)) two.0 (all-filter p (λ other. nat_le d.version other.version) later two.1))
-        rest
-    by_test false rest = rest
-
-all-push : (low : ℕ) (changes : List Dated) (new : Dated) → list_all (λ other. nat_le low other.version) changes ≡ true → low ≤ new.version → list_all (λ other. nat_le low other.version) (changes ++ new ∷ []) ≡ true
-all-push low [] new all le = and_from (nat_le low new.version) true (le-leb _ _ le) refl
-all-push low (d ∷ later) new all le =
-    let parts = and_parts (nat_le low d.version) (list_all (λ other. nat_le low other.version) later) all in
-    and_from (nat_le low d.version) (list_all (λ other. nat_le low other.version) (later ++ new ∷ [])) parts.0 (all-push low later new parts.1 le)
-
-dated-push : (version : ℕ) (changes : List Dated) (change : Change) → is_dated version changes ≡ true → is_dated version (changes ++ record { version = version; change = change } ∷ []) ≡ true
-dated-push version [] change dated = and_from (nat_le version version && true) true (and_from (nat_le version version) true (le-leb _ _ (omega arith)) refl) refl
-dated-push version (d ∷ later) change dated =
-    let one = and_parts (nat_le d.version version && list_all (λ other. nat_le d.version other.version) later) (is_dated version later) dated in
-    let two = and_parts (nat_le d.version version) (list_all (λ other. nat_le d.version other.version) later) one.0 in
-    let new : Dated = record { version = version; change = change } in
-    and_from (nat_le d.version version && list_all (λ other. nat_le d.version other.version) (later ++ new ∷ [])) (is_dated version (later ++ new ∷ []))
-    (and_from (nat_le d.version version) (list_all (λ other. nat_le d.version other.version) (later ++ new ∷ [])) two.0 (all-push d.version later new two.1 (leb-true _ _ two.0)))
-    (dated-push version later change one.1)
+use Rattle.st_versioned.specs.Writing.{made_above}
+use Rattle.st_versioned.proofs.Changes.{is-changed}
+use Rattle.st_versioned.proofs.Reaching.{apart-filter}
 
 -- each of some roots, at a place
 all-at : {X : Type 0} (P : X → Type 0) (xs : List X) (i : ℕ) (x : X) → AllByRecursion P xs → slice_get xs i ≡ Some x → P x
@@ -71,14 +19,12 @@ all-at P [] i x all is = absurd (cc (is))
 all-at P (y ∷ xs) zero x all is = let one : y ≡ x = cc (is) in subst P one all.0
 all-at P (y ∷ xs) (suc i) x all is = all-at P xs i x all.1 is
 
-newest-dated : (window : Versions) (version : ℕ) → Stands window → window.newest < version → is_dated version (newest_root window) ≡ true
-newest-dated window version stands above = by_last (slice_get window.roots (length window.roots - 1)) refl
+newest-apart : (window : Versions) → Stands window → AreApart (newest_root window)
+newest-apart window stands = by_last (slice_get window.roots (length window.roots - 1)) refl
   where
-    by_last : (o : Option Kept) → slice_get window.roots (length window.roots - 1) ≡ o → is_dated version (option_map_or (λ kept. kept.root) o []) ≡ true
-    by_last None is = refl
-    by_last (Some kept) is =
-        let small : kept.version ≤ window.newest = all-at (λ k. k.version ≤ window.newest) window.roots (length window.roots - 1) kept stands.within is in
-        dated-later kept.version version (omega arith) kept.root (all-at (λ k. is_dated k.version k.root ≡ true) window.roots (length window.roots - 1) kept stands.dated is)
+    by_last : (o : Option Kept) → slice_get window.roots (length window.roots - 1) ≡ o → AreApart (option_map_or (λ kept. kept.root) o [])
+    by_last None is = tt
+    by_last (Some kept) is = all-at (λ k. AreApart k.root) window.roots (length window.roots - 1) kept stands.apart is
 
 module _ {X : Type 0} (P : X → Type 0) where
   pub all-one-more : (xs : List X) (x : X) → AllByRecursion P xs → P x → AllByRecursion P (xs ++ x ∷ [])
@@ -215,63 +161,65 @@ stands-begun window version stands none above = record {
   first = stands.first;
   rising = stands.rising;
   within = stands.within;
-  dated = stands.dated;
-  making_dated = λ kept is.
+  apart = stands.apart;
+  making_apart = λ kept is.
       let one : record { version = version; root = made_above window.forgotten (newest_root window) } ≡ kept = cc (is) in
-      subst (λ (k : Kept). is_dated k.version k.root ≡ true) one (dated-filter version (λ dated. nat_lt window.forgotten dated.version) (newest_root window) (newest-dated window version stands above));
+      subst (λ (k : Kept). AreApart k.root) one (apart-filter (λ row. nat_lt window.forgotten row.1.version) (newest_root window) (newest-apart window stands));
   made = all-weaker (λ made. made.0 ≤ latest window) (λ made. made.0 ≤ version) (λ made le.
       let one : made.0 ≤ window.newest = subst (λ (o : Option Kept). made.0 ≤ option_map_or (λ kept. kept.version) o window.newest) none le in
       omega (arith, one, above)) window.mutations stands.made;
 }
 
-pub stands-changed : (window : Versions) (change : Change) → Stands window → Stands (with_change change window)
-stands-changed window change stands = by_making window.making stands.newer stands.making_dated stands.made
+pub stands-changed : (window : Versions) (change : Change) → HasKey change → Stands window → Stands (with_change change window)
+stands-changed window change has_key stands = by_making window.making stands.newer stands.making_apart stands.made
   where
-    by_making : (o : Option Kept) → ForSome o (λ kept. window.newest < kept.version) → ForSome o (λ kept. is_dated kept.version kept.root ≡ true)
+    by_making : (o : Option Kept) → ForSome o (λ kept. window.newest < kept.version) → ForSome o (λ kept. AreApart kept.root)
         → AllByRecursion (λ made. made.0 ≤ option_map_or (λ kept. kept.version) o window.newest) window.mutations
         → Stands (record window { making = option_map (changed change) o })
-    by_making None newer dated made = record {
+    by_making None newer apart made = record {
       order = stands.order;
       newer = λ kept is. absurd (cc (is));
       first = stands.first;
       rising = stands.rising;
       within = stands.within;
-      dated = stands.dated;
-      making_dated = λ kept is. absurd (cc (is));
+      apart = stands.apart;
+      making_apart = λ kept is. absurd (cc (is));
       made = made;
     }
-    by_making (Some kept) newer dated made = record {
+    by_making (Some kept) newer apart made = record {
       order = stands.order;
       newer = λ k is. let one : changed change kept ≡ k = cc (is) in subst (λ (x : Kept). window.newest < x.version) one (newer kept refl);
       first = stands.first;
       rising = stands.rising;
       within = stands.within;
-      dated = stands.dated;
-      making_dated = λ k is. let one : changed change kept ≡ k = cc (is) in subst (λ (x : Kept). is_dated x.version x.root ≡ true) one (dated-push kept.version kept.root change (dated kept refl));
+      apart = stands.apart;
+      making_apart = λ k is. let one : changed change kept ≡ k = cc (is) in subst (λ (x : Kept). AreApart x.root) one ((is-changed kept.version change kept.root (apart kept refl) has_key).apart);
       made = made;
     }
 
-pub stands-begin : (window : Versions) (version : ℕ) (roots : List Kept) (root : List Dated) → Stands window → window.making ≡ None → window.newest < version → roots ≡ window.roots → root ≡ made_above window.forgotten (newest_root window)
-    → Stands (record { forgotten = window.forgotten; newest = window.newest; roots = roots; making = Some (record { version = version; root = root }); mutations = window.mutations })
-stands-begin window version roots root stands none above same_roots is =
+pub stands-begin : (window : Versions) (version : ℕ) (roots : List Kept) (kept : Kept) → Stands window → window.making ≡ None → window.newest < version → roots ≡ window.roots
+    → kept ≡ record { version = version; root = made_above window.forgotten (newest_root window) }
+    → Stands (record { forgotten = window.forgotten; newest = window.newest; roots = roots; making = Some kept; mutations = window.mutations })
+stands-begin window version roots kept stands none above same_roots is =
     subst (λ (w : Versions). Stands w)
-    (λ i. record { forgotten = window.forgotten; newest = window.newest; roots = sym same_roots i; making = Some (record { version = version; root = sym is i }); mutations = window.mutations })
+    (λ i. record { forgotten = window.forgotten; newest = window.newest; roots = sym same_roots i; making = Some (sym is i); mutations = window.mutations })
     (stands-begun window version stands none above)
 
--- a change that was made, or wasn't for want of memory
-pub stands-pushed : {E : Type 0} (window : Versions) (kept : Kept) (change : Change) (r : Result (Unit {0}) E) (root : List Dated) → window.making ≡ Some kept → Stands window
-    → OnOk r (root ≡ kept.root ++ record { version = kept.version; change = change } ∷ []) → OnErr r (root ≡ kept.root)
-    → Stands (record { forgotten = window.forgotten; newest = window.newest; roots = window.roots; making = Some (record { version = kept.version; root = root }); mutations = window.mutations })
-stands-pushed window kept change (Ok u) root making stands ok err =
+-- a change that was made
+pub stands-remade : (window : Versions) (kept new : Kept) (change : Change) → window.making ≡ Some kept → Stands window → HasKey change → new ≡ changed change kept
+    → Stands (record { forgotten = window.forgotten; newest = window.newest; roots = window.roots; making = Some new; mutations = window.mutations })
+stands-remade window kept new change making stands has_key is =
     subst (λ (w : Versions). Stands w)
     ((λ i. with_change change (record window { making = making i }))
-    ∙ (λ i. record { forgotten = window.forgotten; newest = window.newest; roots = window.roots; making = Some (record { version = kept.version; root = sym ok i }); mutations = window.mutations }))
-    (stands-changed window change stands)
-stands-pushed window kept change (Err e) root making stands ok err =
-    subst (λ (w : Versions). Stands w)
-    ((λ i. record window { making = making i })
-    ∙ (λ i. record { forgotten = window.forgotten; newest = window.newest; roots = window.roots; making = Some (record { version = kept.version; root = sym err i }); mutations = window.mutations }))
-    stands
+    ∙ (λ i. record { forgotten = window.forgotten; newest = window.newest; roots = window.roots; making = Some (sym is i); mutations = window.mutations }))
+    (stands-changed window change has_key stands)
+
+-- and the window is the one with the change
+pub remade-is : (window : Versions) (kept new : Kept) (change : Change) → window.making ≡ Some kept → new ≡ changed change kept
+    → record { forgotten = window.forgotten; newest = window.newest; roots = window.roots; making = Some new; mutations = window.mutations } ≡ with_change change window
+remade-is window kept new change making is =
+    (λ i. record { forgotten = window.forgotten; newest = window.newest; roots = window.roots; making = Some (is i); mutations = window.mutations })
+    ∙ (λ i. with_change change (record window { making = sym making i }))
 
 -- a window with other mutations that are made up to the same version
 pub stands-made : (window : Versions) (mutations : List (ℕ × Mutation)) → Stands window → AllByRecursion (λ made. made.0 ≤ latest window) mutations → Stands (record window { mutations = mutations })
@@ -281,8 +229,8 @@ stands-made window mutations stands made = record {
   first = stands.first;
   rising = stands.rising;
   within = stands.within;
-  dated = stands.dated;
-  making_dated = stands.making_dated;
+  apart = stands.apart;
+  making_apart = stands.making_apart;
   made = made;
 }
 
@@ -303,8 +251,8 @@ stands-sealed window kept making stands =
       rising = rising-push window.newest window.roots kept above stands.within stands.rising;
       within = all-one-more (λ k. k.version ≤ kept.version) window.roots kept
           (all-weaker (λ k. k.version ≤ window.newest) (λ k. k.version ≤ kept.version) (λ k le. omega (arith, above, le)) window.roots stands.within) (omega arith);
-      dated = all-one-more (λ k. is_dated k.version k.root ≡ true) window.roots kept stands.dated (stands.making_dated kept making);
-      making_dated = λ k is. absurd (cc (is));
+      apart = all-one-more (λ k. AreApart k.root) window.roots kept stands.apart (stands.making_apart kept making);
+      making_apart = λ k is. absurd (cc (is));
       made = all-weaker (λ made. made.0 ≤ latest window) (λ made. made.0 ≤ kept.version) (λ made le.
           subst (λ (o : Option Kept). made.0 ≤ option_map_or (λ k. k.version) o window.newest) making le) window.mutations stands.made;
     }
@@ -316,8 +264,8 @@ stands-abandoned window stands = record {
   first = stands.first;
   rising = stands.rising;
   within = stands.within;
-  dated = stands.dated;
-  making_dated = λ k is. absurd (cc (is));
+  apart = stands.apart;
+  making_apart = λ k is. absurd (cc (is));
   made = all-passing (λ made. made.0 ≤ window.newest) (λ made. nat_le made.0 window.newest) (λ made is. leb-true _ _ is) window.mutations;
 }
 
@@ -338,8 +286,8 @@ stands-forgot version window le stands = record {
   first = kept-first (max window.forgotten version) window.roots (any-later window.forgotten (max window.forgotten version) (omega arith) window.roots stands.first);
   rising = rising-filter _ window.roots stands.rising;
   within = all-filtered (λ kept. kept.version ≤ window.newest) _ window.roots stands.within;
-  dated = all-filtered (λ kept. is_dated kept.version kept.root ≡ true) _ window.roots stands.dated;
-  making_dated = stands.making_dated;
+  apart = all-filtered (λ kept. AreApart kept.root) _ window.roots stands.apart;
+  making_apart = stands.making_apart;
   made = all-filtered (λ made. made.0 ≤ latest window) _ window.mutations stands.made;
 }
 

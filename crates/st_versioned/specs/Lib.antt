@@ -1,3 +1,5 @@
+pub mod Apart
 pub mod Neighbours
 pub mod Root
 pub mod Window
+pub mod Writing

@@ -1,14 +1,11 @@
 -- The keys on one side of a key, and the one that comes first there.
 use Rattle.std.specs.Prelude.{◌≡◌, ℕ, Bool, true, false, not, if◌then◌else◌, map, List, [], ◌∷◌, Option, Some, None, IsTrue, Contains, MatchOption}
 use Rattle.std.specs.Borrow.{Bor}
-use Rattle.std.specs.List.{AllByRecursion, flat_map}
+use Rattle.std.specs.List.{AllByRecursion}
 use Rattle.st_key.specs.Spans.{key_less}
-use Rattle.st_versioned.specs.Root.{Pairs, same}
+use Rattle.st_versioned.specs.Root.{same}
 use Rattle.st_versioned.specs.declared.bound.Bound.{Bound}
 use Rattle.st_versioned.specs.declared.bound.Bound.TheVariants.{From, Above, Below}
-use Rattle.st_versioned.specs.declared.change.Change.{Change}
-use Rattle.st_versioned.specs.declared.change.Change.TheVariants.{Set, Clear, Erase}
-use Rattle.st_versioned.specs.declared.change.Dated.{Dated}
 
 -- other is above the key, or also at it
 abbrev pub comes_behind : List ℕ → Bool → List ℕ → Bool
@@ -67,14 +64,6 @@ first_of_two bound None b = b
 first_of_two bound (Some a) None = Some a
 first_of_two bound (Some a) (Some b) = Some (if first_by bound b a then b else a)
 
--- the keys that a change sets, and those that changes set
-abbrev pub set_key : Change → List (List ℕ)
-set_key (Set key value) = key ∷ []
-set_key (Clear span) = []
-set_key (Erase span) = []
-
-abbrev pub set_keys : List Dated → List (List ℕ)
-set_keys changes = flat_map (λ dated. set_key dated.change) changes
-
-abbrev pub keys_of : Pairs → List (List ℕ)
+-- the keys of pairs
+abbrev pub keys_of : {X : Type 0} → List (List ℕ × X) → List (List ℕ)
 keys_of pairs = map (λ pair. pair.0) pairs

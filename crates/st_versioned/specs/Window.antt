@@ -5,8 +5,14 @@ use Rattle.std.specs.Option.{ForSome, option_map, option_map_or}
 use Rattle.st_mutation.specs.declared.batch.Mutation.{Mutation}
 use Rattle.st_ptree.specs.Entries.{last_of}
 use Rattle.st_versioned.specs.declared.change.Change.{Change}
-use Rattle.st_versioned.specs.declared.change.Dated.{Dated}
-use Rattle.st_versioned.specs.declared.window.Kept.{Kept}
+use Rattle.st_versioned.specs.Apart.{AreApart}
+use Rattle.st_versioned.specs.Root.{Row}
+use Rattle.st_versioned.specs.Writing.{made_above, written}
+
+-- a version, and the rows that it and those before it wrote
+pub record Kept : Type 0 where
+  pub version : ℕ
+  pub root : List Row
 
 -- A window as its callers see it: its roots from the oldest on, the one in the making, and the mutations of its versions in
 -- their order.
@@ -22,18 +28,14 @@ abbrev pub last_to : ℕ → List Kept → Option Kept
 last_to version roots = last_of (filter (λ kept. nat_le kept.version version) roots)
 
 -- the root of a version: none below the forgotten version and above the newest
-abbrev pub root_of : Versions → ℕ → Option (List Dated)
+abbrev pub root_of : Versions → ℕ → Option (List Row)
 root_of window version =
     if nat_lt version window.forgotten || nat_lt window.newest version then None
     else option_map (λ kept. kept.root) (last_to version window.roots)
 
 -- the root of the newest version
-abbrev pub newest_root : Versions → List Dated
+abbrev pub newest_root : Versions → List Row
 newest_root window = option_map_or (λ kept. kept.root) (slice_get window.roots (length window.roots - 1)) []
-
--- the changes that were made above a version
-abbrev pub made_above : ℕ → List Dated → List Dated
-made_above version changes = filter (λ dated. nat_lt version dated.version) changes
 
 -- the window with a version in the making
 abbrev pub begun : ℕ → Versions → Versions
@@ -41,7 +43,7 @@ begun version window = record window { making = Some (record { version = version
 
 -- a version with one change more
 abbrev pub changed : Change → Kept → Kept
-changed change kept = record { version = kept.version; root = kept.root ++ record { version = kept.version; change = change } ∷ [] }
+changed change kept = record { version = kept.version; root = written kept.version change kept.root }
 
 abbrev pub with_change : Change → Versions → Versions
 with_change change window = record window { making = option_map (changed change) window.making }
@@ -74,16 +76,6 @@ forgot version window = record {
   mutations = filter (λ made. nat_lt (max window.forgotten version) made.0) window.mutations;
 }
 
--- the changes that a base at a version has
-abbrev pub made_to : ℕ → List Dated → List Dated
-made_to version changes = filter (λ dated. nat_le dated.version version) changes
-
--- versions of changes never fall, and are at most this one
-abbrev pub is_dated : ℕ → List Dated → Bool
-is_dated version [] = true
-is_dated version (dated ∷ later) =
-    nat_le dated.version version && list_all (λ other. nat_le dated.version other.version) later && is_dated version later
-
 -- versions that rise
 abbrev pub is_rising : List Kept → Bool
 is_rising [] = true
@@ -100,6 +92,6 @@ pub record Stands (window : Versions) : Type 0 where
   pub first : IsTrue (list_any (λ kept. nat_le kept.version window.forgotten) window.roots)
   pub rising : IsTrue (is_rising window.roots)
   pub within : AllByRecursion (λ kept. kept.version ≤ window.newest) window.roots
-  pub dated : AllByRecursion (λ kept. IsTrue (is_dated kept.version kept.root)) window.roots
-  pub making_dated : ForSome window.making (λ kept. IsTrue (is_dated kept.version kept.root))
+  pub apart : AllByRecursion (λ kept. AreApart kept.root) window.roots
+  pub making_apart : ForSome window.making (λ kept. AreApart kept.root)
   pub made : AllByRecursion (λ made. made.0 ≤ latest window) window.mutations

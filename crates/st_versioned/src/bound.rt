@@ -22,7 +22,7 @@ pub(crate) fn is_same(a: &[u8], b: &[u8]) -> bool
     a.cmp(b).is_eq()
 }
 
-fn is_less(a: &[u8], b: &[u8]) -> bool
+pub(crate) fn is_less(a: &[u8], b: &[u8]) -> bool
     ensures { result ≡ key_less a.now b.now }
 {
     a.cmp(b).is_lt()

@@ -1,120 +1,160 @@
 //! What one version decides.
-ghost use Rattle.std.specs.Prelude.{◌≡◌, ◌++◌, ◌∷◌, [], IfOk, OnErr, OnOk};
+ghost use Rattle.std.specs.Prelude.{◌≡◌, ◌+◌, ◌≤◌, ◌<◌, [], Some, IfOk};
 ghost use Rattle.std.specs.Option.{option_map};
-ghost use Rattle.st_versioned.specs.Neighbours.{IsFirstKey, first_by, is_beyond, set_key, set_keys};
-ghost use Rattle.st_versioned.specs.Root.{decided, told};
-ghost use Rattle.st_versioned.specs.Window.{made_above};
+ghost use Rattle.st_ptree.specs.Depth.{depth_behind};
+ghost use Rattle.st_ptree.specs.Entries.{pairs_of};
+ghost use Rattle.st_versioned.specs.Apart.{AreApart};
+ghost use Rattle.st_versioned.specs.Writing.{made_above, written};
+ghost use Rattle.st_versioned.specs.Root.{decided, decided_by, told};
 
-use crate::bound::{Bound, is_same};
-use crate::{Change, Dated};
-use st_key::Value;
+use crate::bound::{is_less, is_same};
+use crate::changing::change;
+use crate::{Change, Dated, Entry};
+use bytes::Bytes;
+use rand_pcg::Pcg32;
+use st_ptree::{PTree, Steps, pairs_are_a_map};
 use std::alloc::{AllocError, Global};
-use std::marker::Model;
+use std::marker::Brand;
+use std::sync::ledger::{Blank, Ledger};
 
-/// What a version and those before it decide, as their changes, the newest of them last.
-///
-/// It is a list that is looked through whole, until nodes replace it.
-#[derive(Debug, Drop)]
+/// What a version and those before it decide: values of keys, and cleared ranges. What none of them reaches is the base's to
+/// tell.
+#[derive(Drop)]
 pub struct Root {
-    changes: Vec<Dated>,
+    pub entries: PTree<Dated>,
 }
 
-impl Model for Root {
-    ghost use Rattle.std.specs.Prelude.{List};
-    ghost use Rattle.st_versioned.specs.declared.change.Dated.{Dated};
-
-    ghost Value = { List Dated };
-
-    ghost view = { λ root. root.changes.items };
-}
-
-impl Clone for Root {
-    ghost is_clone = { λ root copy. copy ≡ root };
-
-    fn clone(&self) -> Result<Root, AllocError> {
-        Ok(Root {
-            changes: self.changes.clone()?,
-        })
+// What this tells, written at one key, of a key at it or above it. It is one step.
+fn told_by<'a, L: Ledger>(
+    at: &'a Bytes,
+    dated: &'a Dated,
+    key: &[u8],
+    steps: &mut Steps<L>,
+) -> Option<Option<&'a Bytes>>
+    ensures value { option_map (option_map (λ v. v.now)) result ≡ told (decided_by key.now (Some (at.now, dated.now))) }
+    ensures steps { steps.new ≡ steps.old + 1 }
+{
+    steps.tick();
+    match &dated.entry {
+        Entry::Value(value) => {
+            if is_same(key, at.as_slice()) {
+                Some(Some(value))
+            } else {
+                None
+            }
+        }
+        Entry::ClearTo(end) => {
+            if is_less(key, end.as_slice()) {
+                Some(None)
+            } else {
+                None
+            }
+        }
     }
+}
+
+// The entries behind a change, by steps that are counted for no one.
+fn changed_in<L: Ledger>(
+    alloc: Global,
+    entries: &PTree<Dated>,
+    version: u64,
+    made: &Change,
+    random: &mut Pcg32,
+    blank: Blank,
+) -> Result<PTree<Dated>, AllocError>
+    requires name { blank.name ≡ L.name }
+    requires parts { blank.parts ≡ L.parts }
+    requires some { 0 < blank.parts }
+    ensures { IfOk result (λ changed. pairs_of changed ≡ written version made.now (pairs_of entries.now)) }
+{
+    let mut steps = Steps::<L>::new(blank);
+    let mut changed = entries.share()?;
+    change(alloc, &mut changed, version, made, random, &mut steps)?;
+    Ok(changed)
+}
+
+// The entries that were written above a version, by steps that are counted for no one.
+fn above_in<L: Ledger>(
+    entries: &PTree<Dated>,
+    version: u64,
+    blank: Blank,
+) -> Result<PTree<Dated>, AllocError>
+    requires name { blank.name ≡ L.name }
+    requires parts { blank.parts ≡ L.parts }
+    requires some { 0 < blank.parts }
+    requires apart { AreApart (pairs_of entries.now) }
+    ensures { IfOk result (λ above. pairs_of above ≡ made_above version (pairs_of entries.now)) }
+{
+    pairs_are_a_map::<Dated>();
+    let mut steps = Steps::<L>::new(blank);
+    let mut above = entries.share()?;
+    for (key, dated) in entries.iter() {
+        if dated.version <= version {
+            above.remove(key.as_slice(), &mut steps)?;
+        }
+    }
+    Ok(above)
 }
 
 impl Root {
     /// Nothing is decided.
     pub(crate) fn new(alloc: Global) -> Root
-        ensures { result ≡ [] }
+        ensures { result.entries ≡ [] }
     {
         Root {
-            changes: Vec::new(alloc),
+            entries: PTree::new(alloc),
         }
     }
 
-    /// What was decided above a version.
-    pub(crate) fn made_above(&self, alloc: Global, version: u64) -> Result<Root, AllocError>
-        ensures { IfOk result (λ root. root ≡ made_above version self.now) }
+    /// The same root for another owner. It copies nothing.
+    pub fn share(&self) -> Result<Root, AllocError>
+        ensures { IfOk result (λ root. root ≡ self.now) }
     {
-        let mut changes = Vec::new(alloc);
-        for dated in &self.changes {
-            if version < dated.version {
-                changes.push(dated.clone()?)?;
-            }
-        }
-        Ok(Root { changes })
+        Ok(Root {
+            entries: self.entries.share()?,
+        })
     }
 
-    /// One change more.
-    pub(crate) fn push(&mut self, dated: Dated) -> Result<(), AllocError>
-        ensures ok { OnOk result (self.new ≡ self.old ++ dated ∷ []) }
-        ensures err { OnErr result (self.new ≡ self.old) }
+    /// What was written above a version.
+    pub(crate) fn above(&self, version: u64) -> Result<Root, AllocError>
+        requires { AreApart (pairs_of self.now.entries) }
+        ensures { IfOk result (λ root. pairs_of root.entries ≡ made_above version (pairs_of self.now.entries)) }
     {
-        self.changes.push(dated)?;
-        Ok(())
+        Ok(Root {
+            entries: above_in::<Brand>(&self.entries, version, Blank::new(1))?,
+        })
     }
 
-    /// The value that is decided of a key, which may be that there is none. None where the base is to tell. The newest change
-    /// that has the key decides it.
-    pub(crate) fn told(&self, key: &[u8]) -> Option<Option<&Value>>
-        ensures { option_map (option_map (λ v. v.now)) result ≡ told (decided self.now key.now) }
+    /// The root behind a change of a version.
+    pub(crate) fn changed(
+        &self,
+        alloc: Global,
+        version: u64,
+        change: &Change,
+        random: &mut Pcg32,
+    ) -> Result<Root, AllocError>
+        ensures { IfOk result (λ root. pairs_of root.entries ≡ written version change.now (pairs_of self.now.entries)) }
     {
-        for i in (0..self.changes.len()).rev() {
-            match &self.changes[i].change {
-                Change::Set(set, value) => {
-                    if is_same(key, set.bytes()) {
-                        return Some(Some(value));
-                    }
-                }
-                Change::Clear(range) => {
-                    if range.contains(key) {
-                        return Some(None);
-                    }
-                }
-                Change::Erase(range) => {
-                    if range.contains(key) {
-                        return None;
-                    }
-                }
-            }
-        }
-        None
+        Ok(Root {
+            entries: changed_in::<Brand>(
+                alloc,
+                &self.entries,
+                version,
+                change,
+                random,
+                Blank::new(1),
+            )?,
+        })
     }
 
-    /// The first key beyond a bound that the changes set.
-    pub(crate) fn first_set(&self, bound: Bound<'_>) -> Option<&[u8]>
-        ensures { IsFirstKey (first_by bound.entry) (is_beyond bound.entry) (set_keys self.now) (option_map (λ k. k.now) result) }
+    /// The value that is decided of a key, which may be that there is none. None where the base is to tell.
+    pub(crate) fn told<L: Ledger>(&self, key: &[u8], steps: &mut Steps<L>) -> Option<Option<&Bytes>>
+        ensures value { option_map (option_map (λ v. v.now)) result ≡ told (decided (pairs_of self.now.entries) key.now) }
+        ensures steps { steps.new ≤ steps.old + depth_behind key.now self.now.entries + 2 }
     {
-        let mut first = None;
-        for dated in &self.changes {
-            first = bound.first(first, set_beyond(&dated.change, bound));
-        }
-        first
-    }
-}
-
-// The key that a change sets, where it is beyond the bound.
-fn set_beyond<'a>(change: &'a Change, bound: Bound<'_>) -> Option<&'a [u8]>
-    ensures { IsFirstKey (first_by bound.entry) (is_beyond bound.entry) (set_key change.now) (option_map (λ k. k.now) result) }
-{
-    match change {
-        Change::Set(key, _) if bound.is_beyond(key.bytes()) => Some(key.bytes()),
-        _ => None,
+        let Some((at, dated)) = self.entries.last_at_or_below(key, steps) else {
+            return None;
+        };
+        told_by(at, dated, key, steps)
     }
 }

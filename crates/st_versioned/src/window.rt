@@ -1,26 +1,25 @@
 //! The versions that are kept.
 ghost use Rattle.std.specs.Prelude.{◌≡◌, ◌<◌, ◌≤◌, ◌⊎◌, ◌↔◌, [], ◌∷◌, None, Some, IfOk, OnErr, OnOk, IsNone, IsSome};
-ghost use Rattle.std.specs.Option.{option_copied, option_map};
-ghost use Rattle.st_versioned.specs.Window.{Stands, abandoned, begun, forgot, last_to, made_above, mutations_to, newest_root, root_of, sealed, with_change, with_mutation};
+ghost use Rattle.std.specs.Option.{option_map};
+ghost use Rattle.st_ptree.specs.Entries.{pairs_of};
+ghost use Rattle.st_versioned.specs.Apart.{HasKey};
+ghost use Rattle.st_versioned.specs.Window.{Stands, abandoned, begun, forgot, last_to, mutations_to, newest_root, root_of, sealed, with_change, with_mutation};
+ghost use Rattle.st_versioned.specs.Writing.{made_above};
 ghost use Rattle.st_versioned.specs.declared.change.Change.TheVariants.{Set as set_change, Clear as clear_change, Erase as erase_change};
 ghost use Rattle.st_mutation.specs.declared.batch.Mutation.TheVariants.{Set as set_mutation, Clear as clear_mutation};
 
-use crate::{Change, Dated, Root};
+use crate::kept::Kept;
+use crate::{Change, Root};
+use rand_core::SeedableRng;
+use rand_pcg::Pcg32;
 use st_key::{Key, Range, Value};
 use st_mutation::Mutation;
 use std::alloc::{AllocError, Global};
 use std::marker::Model;
 
-// A version and its root.
-#[derive(Drop)]
-pub(crate) struct Kept {
-    pub version: u64,
-    pub root: Root,
-}
-
 /// The versions of a map above a base, from the oldest that can be read to the newest, and the one in the making.
 ///
-/// Each version copies the changes of the one before, until nodes replace them.
+/// Versions share what they have in common: a change makes the entries on its way anew.
 #[derive(Drop)]
 pub struct Window {
     alloc: Global,
@@ -30,11 +29,15 @@ pub struct Window {
     roots: Vec<Kept>,
     making: Option<Kept>,
     mutations: Vec<(u64, Mutation)>,
+    // the priorities of entries that are to come
+    random: Pcg32,
 }
 
 impl Model for Window {
     ghost use Rattle.std.specs.Prelude.{◌<◌, vec_len, vec_capacity};
     ghost use Rattle.std.specs.Option.{ForSome};
+    ghost use Rattle.st_ptree.specs.Entries.{pairs_of};
+    ghost use Rattle.st_versioned.specs.Apart.{HasKey};
     ghost use Rattle.st_versioned.specs.Window.{Stands, Versions};
 
     ghost Value = { Versions };
@@ -46,17 +49,14 @@ impl Model for Window {
 }
 
 impl Window {
-    /// The window of one version, which decides nothing. Priorities are no part of lists, so the seed isn't used yet.
-    pub fn new(alloc: Global, at: u64, _seed: u64) -> Result<Window, AllocError>
+    /// The window of one version, which decides nothing. The priorities of its entries are the words of the seed.
+    pub fn new(alloc: Global, at: u64, seed: u64) -> Result<Window, AllocError>
         ensures new { IfOk result (λ window. window
             ≡ record { forgotten = at; newest = at; roots = record { version = at; root = [] } ∷ []; making = None; mutations = [] }) }
         ensures stands { IfOk result Stands }
     {
         let mut roots = Vec::new(alloc);
-        roots.push(Kept {
-            version: at,
-            root: Root::new(alloc),
-        })?;
+        roots.push(Kept::new(alloc, at))?;
         Ok(Window {
             alloc,
             forgotten: at,
@@ -64,17 +64,19 @@ impl Window {
             roots,
             making: None,
             mutations: Vec::new(alloc),
+            random: Pcg32::seed_from_u64(seed),
         })
     }
 
-    // What the newest version decided above the forgotten one.
-    fn newest_above(&self) -> Result<Root, AllocError>
-        ensures root { IfOk result (λ root. root ≡ made_above self.now.forgotten (newest_root self.now)) }
+    // The version that begins above the newest.
+    fn next(&self, version: u64) -> Result<Kept, AllocError>
+        requires { self.now.newest < version }
+        ensures kept { IfOk result (λ kept. kept ≡ record { version = version; root = made_above self.now.forgotten (newest_root self.now) }) }
         ensures stands { Stands self.now }
     {
         match self.roots.last() {
-            Some(newest) => newest.root.made_above(self.alloc, self.forgotten),
-            None => Ok(Root::new(self.alloc)),
+            Some(newest) => newest.begun(version, self.forgotten),
+            None => unreachable!(),
         }
     }
 
@@ -87,41 +89,39 @@ impl Window {
         ensures err { OnErr result (self.new ≡ self.old) }
         ensures stands { Stands self.new }
     {
-        let root = self.newest_above()?;
+        let kept = self.next(version)?;
         self.roots.reserve(1)?;
-        self.making = Some(Kept { version, root });
+        self.making = Some(kept);
         Ok(())
     }
 
     // One change of the version in the making.
-    fn change(&mut self, change: Change) -> Result<(), AllocError>
-        requires { IsSome self.old.making }
-        ensures ok { OnOk result (self.new ≡ with_change change self.old) }
-        ensures err { OnErr result (self.new ≡ self.old) }
-        ensures stands { Stands self.new }
-    {
-        match self.making.take() {
-            Some(mut kept) => {
-                let version = kept.version;
-                let pushed = kept.root.push(Dated { version, change });
-                self.making = Some(kept);
-                pushed
-            }
-            None => Ok(()),
-        }
-    }
-
-    // One change of the version in the making, which is a mutation of it.
-    fn mutate(&mut self, change: Change, mutation: Mutation) -> Result<(), AllocError>
-        requires { IsSome self.old.making }
-        ensures ok { OnOk result (self.new ≡ with_change change (with_mutation mutation self.old)) }
+    fn change(&mut self, change: &Change) -> Result<(), AllocError>
+        requires making { IsSome self.old.making }
+        requires has_key { HasKey change.now }
+        ensures ok { OnOk result (self.new ≡ with_change change.now self.old) }
         ensures err { OnErr result (self.new ≡ self.old) }
         ensures stands { Stands self.new }
     {
         let Some(kept) = &self.making else {
-            return Ok(());
+            unreachable!()
         };
-        let version = kept.version;
+        self.making = Some(kept.changed(self.alloc, change, &mut self.random)?);
+        Ok(())
+    }
+
+    // One change of the version in the making, which is a mutation of it.
+    fn mutate(&mut self, change: &Change, mutation: Mutation) -> Result<(), AllocError>
+        requires making { IsSome self.old.making }
+        requires has_key { HasKey change.now }
+        ensures ok { OnOk result (self.new ≡ with_change change.now (with_mutation mutation self.old)) }
+        ensures err { OnErr result (self.new ≡ self.old) }
+        ensures stands { Stands self.new }
+    {
+        let Some(kept) = &self.making else {
+            unreachable!()
+        };
+        let version = kept.version();
         self.mutations.push((version, mutation))?;
         match self.change(change) {
             Ok(()) => Ok(()),
@@ -141,7 +141,7 @@ impl Window {
     {
         let change = Change::Set(key.clone()?, value.clone()?);
         let mutation = Mutation::Set(key.clone()?, value.clone()?);
-        self.mutate(change, mutation)
+        self.mutate(&change, mutation)
     }
 
     /// The keys of the range have no value, in the version in the making.
@@ -151,9 +151,10 @@ impl Window {
         ensures err { OnErr result (self.new ≡ self.old) }
         ensures stands { OnOk result (Stands self.new) }
     {
+        let _ordered = range.begin();
         let change = Change::Clear(range.clone()?);
         let mutation = Mutation::Clear(range.clone()?);
-        self.mutate(change, mutation)
+        self.mutate(&change, mutation)
     }
 
     /// The keys of the range are the base's to tell, in the version in the making. It is no mutation.
@@ -163,17 +164,18 @@ impl Window {
         ensures err { OnErr result (self.new ≡ self.old) }
         ensures stands { OnOk result (Stands self.new) }
     {
+        let _ordered = range.begin();
         let change = Change::Erase(range.clone()?);
-        self.change(change)
+        self.change(&change)
     }
 
     /// The root of the version in the making.
     pub fn making(&self) -> Option<&Root>
-        ensures root { option_copied result ≡ option_map (λ kept. kept.root) self.now.making }
+        ensures root { option_map (λ root. pairs_of root.now.entries) result ≡ option_map (λ kept. kept.root) self.now.making }
         ensures stands { Stands self.now }
     {
         match &self.making {
-            Some(kept) => Some(&kept.root),
+            Some(kept) => Some(kept.root()),
             None => None,
         }
     }
@@ -185,7 +187,7 @@ impl Window {
         ensures stands { Stands self.new }
     {
         if let Some(kept) = self.making.take() {
-            self.newest = kept.version;
+            self.newest = kept.version();
             self.roots.push_reserved(kept);
         }
     }
@@ -206,7 +208,7 @@ impl Window {
     {
         let mut last = None;
         for kept in &self.roots {
-            if kept.version <= version {
+            if kept.version() <= version {
                 last = Some(kept);
             }
         }
@@ -218,20 +220,20 @@ impl Window {
         ensures { result ≡ option_map (λ kept. kept.version) (last_to version self.now.roots) }
     {
         let kept = self.last_to(version)?;
-        Some(kept.version)
+        Some(kept.version())
     }
 
     /// The root of a version: of the newest one that is kept at it or below it. None exactly below the forgotten version or
     /// above the newest.
     pub fn root_at(&self, version: u64) -> Result<Option<Root>, AllocError>
-        ensures root { IfOk result (λ root. root ≡ root_of self.now version) }
+        ensures root { IfOk result (λ root. option_map (λ root. pairs_of root.entries) root ≡ root_of self.now version) }
         ensures none { IfOk result (λ root. IsNone root ↔ (version < self.now.forgotten ⊎ self.now.newest < version)) }
     {
         if version < self.forgotten || self.newest < version {
             return Ok(None);
         }
         match self.last_to(version) {
-            Some(kept) => Ok(Some(kept.root.clone()?)),
+            Some(kept) => Ok(Some(kept.root().share()?)),
             None => Ok(None),
         }
     }
@@ -245,11 +247,11 @@ impl Window {
     {
         let forgotten = self.forgotten.max(version);
         let from = match self.last_to(forgotten) {
-            Some(kept) => kept.version,
+            Some(kept) => kept.version(),
             None => 0,
         };
         self.forgotten = forgotten;
-        self.roots.retain(|kept| from <= kept.version);
+        self.roots.retain(|kept| from <= kept.version());
         self.mutations.retain(|made| forgotten < made.0);
     }
 

@@ -7,6 +7,7 @@ use Rattle.st_course.specs.Course.{clears_after}
 use Rattle.st_board.specs.Stands.{Standing}
 use Rattle.st_board.specs.Storing.{all_stored}
 use Rattle.st_board.proofs.Applying.{clears-applied, is_after, keeps-applied, short-keys}
+use Rattle.st_board.proofs.Deciding.{WritesDecide}
 use Rattle.st_board.proofs.Room.{at-most-two}
 use Rattle.st_board.proofs.board.Board.apply_next.Goals as goal
 
@@ -25,7 +26,7 @@ pub invariant_of-self-2 : goal.invariant_of-self-2
 invariant_of-self-2 g c = (
   keeps-applied g.N.Story.given g.N.Story.opening g.N.Story.store _ c.self.invariant.0 c.args.batch.now
       (subst (λ (b : Standing). next_batch g.N.Story.given b.state ≡ Some c.args.batch.now) (sym c.self.view_is) c.requires.next)
-      c.course_goes_on.ensures.behind c.decisions_above_stay.ensures c.clip_is_the_part_inside.ensures.inside
+      c.course_goes_on.ensures.behind writing c.clip_is_the_part_inside.ensures.inside
       c.put_next.new.window
       (c.in_ok-put_next.ensures.ok ∙ ap (λ pieces. sealed (all_stored (pairs_of c.self.inside.base) pieces (begun c.args.batch.now.version c.self.inside.window) c.args.batch.now.mutations)) c.pieces.ensures.value)
       c.put_next.ensures.stands
@@ -42,5 +43,8 @@ invariant_of-self-2 g c = (
   (let few = at-most-two c.self.inside.flight in omega (arith, c.in_ok-reserve.ensures.ok, c.reserve.ensures.len, c.push_reserved.ensures.len, c.push_reserved.ensures.capacity)),
 )
   where
+    writing : WritesDecide
+    writing = record { decides = c.what_is_written_decides.ensures.decides; apart = c.what_is_written_decides.ensures.apart; above = c.decisions_above_stay.ensures }
+
     applied : c.push_reserved.new.self.items ≡ c.self.inside.trace.items ++ Applied c.args.batch.now.version ∷ []
     applied = c.push_reserved.ensures.items ∙ ap (λ items. items ++ Applied c.args.batch.now.version ∷ []) c.reserve.ensures.items

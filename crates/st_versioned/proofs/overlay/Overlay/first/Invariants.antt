@@ -5,7 +5,7 @@ use Rattle.st_versioned.proofs.Search.{Searched, candidates}
 use Rattle.st_versioned.proofs.overlay.Overlay.first.Given as goal
 
 abbrev pub invariant-loop-key : goal.invariant-loop-key
-invariant-loop-key g l = Searched l.self.root.now (pairs_of l.self.base.now) l.bound l.side
+invariant-loop-key g l = Searched (pairs_of l.self.root.now.entries) (pairs_of l.self.base.now) l.bound l.side
 
 abbrev pub decreases-loop-key : goal.decreases-loop-key
-decreases-loop-key g l = length (filter (is_beyond l.side) (candidates l.self.root.now (pairs_of l.self.base.now)))
+decreases-loop-key g l = length (filter (is_beyond l.side) (candidates (pairs_of l.self.root.now.entries) (pairs_of l.self.base.now)))

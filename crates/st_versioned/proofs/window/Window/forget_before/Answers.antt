@@ -14,7 +14,7 @@ module _ (c : goal.After-retain-2) where
   from_is =
       let last = kept_from-is (λ k. k.now) c.last_to.result (last_to c.max-forgotten.result c.self.inside.roots.items) (c.last_to.ensures ∙ ap (λ (v : Versions). last_to c.max-forgotten.result v.roots) (sym c.self.view_is)) in
       elim c.match-last_to.branch [
-        | in-Some w ↦ w.from-is ∙ ap (λ o. option_map_or (λ k. k.now.version) o 0) (sym w.in-Some.is) ∙ last
+        | in-Some w ↦ w.from-is ∙ w.version-from.ensures ∙ ap (λ o. option_map_or (λ k. k.now.version) o 0) (sym w.in-Some.is) ∙ last
         | in-None w ↦ w.from-is ∙ ap (λ o. option_map_or (λ k. k.now.version) o 0) (sym w.in-None.is) ∙ last
       ]
 

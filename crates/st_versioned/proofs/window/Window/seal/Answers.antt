@@ -12,7 +12,7 @@ invariant_of-self c =
     let none : c.take.new.self ≡ None = c.take.ensures.after in (
       λ x is. absurd (cc (none, is)),
       subst (λ (w : Versions). Stands w)
-          (λ i. record { forgotten = inside.forgotten; newest = kept.version; roots = sym c.push_reserved.ensures.items i; making = sym none i; mutations = inside.mutations.items })
+          (λ i. record { forgotten = inside.forgotten; newest = sym c.version-self-inside.ensures i; roots = sym c.push_reserved.ensures.items i; making = sym none i; mutations = inside.mutations.items })
           (stands-sealed window kept making c.self.invariant.1),
     )
 

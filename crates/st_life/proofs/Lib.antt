@@ -1,0 +1,7 @@
+mod Played
+mod Synced
+mod Runs
+mod RowParts
+mod Rows
+mod FileRows
+mod CrashRows

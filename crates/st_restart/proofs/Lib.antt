@@ -1,0 +1,5 @@
+mod Users
+mod Stores
+mod Available
+mod Differences
+mod Rows

@@ -1,0 +1,3 @@
+pub mod Opened
+pub mod Agreement
+pub mod After

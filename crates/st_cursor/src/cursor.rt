@@ -109,7 +109,8 @@ impl Cursor {
         }
     }
 
-    fn following(&self) -> Option<&Batch>
+    /// The batch that `next` would give, without going on behind it. None exactly where it gives none.
+    pub fn following(&self) -> Option<&Batch>
         ensures next { option_copied result ≡ next_of self.now }
         ensures later { IfSome result (λ batch. self.now.last < batch.now.version) }
         ensures kept { self.now.popped ≤ self.now.last }

@@ -1,0 +1,13 @@
+mod Batches
+mod Acting
+mod Courses
+mod Users
+mod Opens
+mod Keeping
+mod Moments
+mod Ending
+mod Due
+mod Beginning
+mod Refusals
+mod Driving
+mod Rows

@@ -3,10 +3,10 @@ use Rattle.std.proofs.Common.{◌≡◌, ℕ, ◌-◌, ◌<◌, Bool, ◌||◌, 
 use Rattle.std.specs.List.{list_any}
 use Rattle.std.specs.Option.{option_map_or}
 use Rattle.st_mutation.specs.declared.batch.Batch.{Batch}
-use Rattle.st_script.specs.declared.line.Form.{Form}
-use Rattle.st_script.specs.declared.line.Form.TheVariants as form
-use Rattle.st_script.specs.declared.line.Place.{Place}
-use Rattle.st_script.specs.declared.line.Place.TheVariants as place
+use Rattle.st_script.specs.declared.form.Form.{Form}
+use Rattle.st_script.specs.declared.form.Form.TheVariants as form
+use Rattle.st_script.specs.declared.form.Place.{Place}
+use Rattle.st_script.specs.declared.form.Place.TheVariants as place
 use Rattle.st_script.specs.Draft.{Drafted, on_last, last_version}
 use Rattle.st_script.specs.Lines.{form_of}
 use Rattle.st_script.specs.Reading.{judge, judge_known}

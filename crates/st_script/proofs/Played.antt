@@ -16,16 +16,15 @@ use Rattle.st_fold.specs.declared.plan.Script.{Script}
 use Rattle.st_fold.specs.declared.request.Ask.{Ask}
 use Rattle.st_fold.specs.declared.request.Request.{Request}
 use Rattle.st_fold.specs.Reading.{is_watch}
-use Rattle.st_script.specs.declared.line.Form.{Form}
-use Rattle.st_script.specs.declared.line.Form.TheVariants as form
-use Rattle.st_script.specs.declared.line.Line.{Line}
-use Rattle.st_script.specs.declared.line.Line.TheVariants as line
-use Rattle.st_script.specs.declared.line.Place.{Place}
-use Rattle.st_script.specs.declared.line.Place.TheVariants as place
+use Rattle.st_script.specs.declared.form.Form.{Form}
+use Rattle.st_script.specs.declared.form.Form.TheVariants as form
+use Rattle.st_script.specs.Lines as line
+use Rattle.st_script.specs.declared.form.Place.{Place}
+use Rattle.st_script.specs.declared.form.Place.TheVariants as place
 use Rattle.st_script.specs.Words.{lines, words, is_skipped, is_empty}
 use Rattle.st_script.specs.Fields.{number_of, number_in, number_field, offset_field, max_version, version_field, bytes_field, key_field, range_of, range_about, is_word, ◌>>=◌}
 use Rattle.st_script.specs.Requests.{is_request, get_of, rows_of, select_of, request_of}
-use Rattle.st_script.specs.Lines.{pair_in, asked_by, asked_at_end, step_line, poll_by, apply_line, poll_line, line_of, form_of}
+use Rattle.st_script.specs.Lines.{Line, pair_in, asked_by, asked_at_end, step_line, poll_by, apply_line, poll_line, line_of, form_of}
 use Rattle.st_script.specs.Draft.{Drafted, nothing_yet, all_keys, max_batches, max_requests, max_rows, max_played, no_mutations, no_steps, add_batch, add_mutation, add_request, add_asked, rows_asked, add_step, on_last, last_version, is_later_line, is_allowed, is_repeated, add_line, later_forms, is_among}
 use Rattle.st_script.specs.Reading.{judge_known, judge_head, judge, after_line, finish, on_draft, judge_lines, max_bytes, script_of}
 use Rattle.st_script.specs.declared.refusal.ScriptRefusal.{ScriptRefusal}
@@ -214,15 +213,15 @@ said_request (request ∷ a ∷ b ∷ c ∷ d ∷ e ∷ at ∷ word ∷ words) =
 -- ---- what a line of a form says
 
 abbrev SaidBy : Form → Line → Type 0
-SaidBy form.Patience said = (polls : ℕ) × (said ≡ line.PatienceOf polls) × (1 ≤ polls) × (polls ≤ 1000)
-SaidBy form.Batch said = (version : ℕ) × (said ≡ line.BatchOf version)
-SaidBy form.Set said = (mutation : Mutation) × (said ≡ line.Changes mutation)
-SaidBy form.Clear said = (mutation : Mutation) × (said ≡ line.Changes mutation)
-SaidBy (form.Atomic op) said = (mutation : Mutation) × (said ≡ line.Changes mutation)
-SaidBy form.Life said = (upto : ℕ) × (said ≡ line.LifeTo upto)
-SaidBy form.Ask said = (reader : ℕ) × (ask : Ask) × (said ≡ line.Asks reader ask) × (1 ≤ reader) × (reader ≤ 64) × Versioned ask
-SaidBy form.Last said = (ask : Ask) × (said ≡ line.Asks 0 ask) × Versioned ask
-SaidBy form.Do said = (done : Do) × (count : ℕ) × (said ≡ line.Does done count) × IsOfSchedule done
+SaidBy form.Patience said = (polls : ℕ) × (said ≡ line.patience_of polls) × (1 ≤ polls) × (polls ≤ 1000)
+SaidBy form.Batch said = (version : ℕ) × (said ≡ line.batch_of version)
+SaidBy form.Set said = (mutation : Mutation) × (said ≡ line.changes mutation)
+SaidBy form.Clear said = (mutation : Mutation) × (said ≡ line.changes mutation)
+SaidBy (form.Atomic op) said = (mutation : Mutation) × (said ≡ line.changes mutation)
+SaidBy form.Life said = (upto : ℕ) × (said ≡ line.life_to upto)
+SaidBy form.Ask said = (reader : ℕ) × (ask : Ask) × (said ≡ line.asks reader ask) × (1 ≤ reader) × (reader ≤ 64) × Versioned ask
+SaidBy form.Last said = (ask : Ask) × (said ≡ line.asks 0 ask) × Versioned ask
+SaidBy form.Do said = (done : Do) × (count : ℕ) × (said ≡ line.does done count) × IsOfSchedule done
 SaidBy other said = Unit {0}
 
 said_step : (done : Do) (count : Option (List ℕ)) → IsOfSchedule done → IfOk (step_line done count) (SaidBy form.Do)

@@ -12,12 +12,12 @@ use Rattle.st_fold.specs.declared.plan.LifePlan.{LifePlan}
 use Rattle.st_fold.specs.declared.request.Ask.{Ask}
 use Rattle.st_fold.specs.declared.request.Ask.TheVariants.{Rows}
 use Rattle.st_fold.specs.declared.request.Request.{Request}
-use Rattle.st_script.specs.declared.line.Form.{Form}
-use Rattle.st_script.specs.declared.line.Form.TheVariants as form
-use Rattle.st_script.specs.declared.line.Line.{Line}
-use Rattle.st_script.specs.declared.line.Line.TheVariants as line
-use Rattle.st_script.specs.declared.line.Place.{Place}
-use Rattle.st_script.specs.declared.line.Place.TheVariants as place
+use Rattle.st_script.specs.declared.form.Form.{Form}
+use Rattle.st_script.specs.declared.form.Form.TheVariants as form
+use Rattle.st_script.specs.declared.form.Place.{Place}
+use Rattle.st_script.specs.declared.form.Place.TheVariants as place
+use Rattle.st_script.specs.Lines as line
+use Rattle.st_script.specs.Lines.{Line}
 use Rattle.st_script.specs.Words.{is_empty}
 use Rattle.st_script.specs.Fields.{is_word}
 
@@ -180,14 +180,14 @@ add_step step plan = record plan { dos = plan.dos ++ step ∷ [] }
 
 -- the draft after a line, or the version or the limit that the line breaks
 abbrev pub add_line : Drafted → Line → Result Drafted Kind
-add_line draft line.Head = Ok (record draft { place = place.Head })
-add_line draft (line.PatienceOf polls) = Ok (record draft { patience = Some polls })
-add_line draft line.OwnsAll = Ok (record draft { own = all_keys ∷ [] })
-add_line draft line.LogBegins = Ok (record draft { place = place.Log })
-add_line draft (line.BatchOf version) = add_batch draft version
-add_line draft (line.Changes mutation) = Ok (record draft { log = on_last (add_mutation mutation) draft.log })
-add_line draft (line.LifeTo version) = Ok (record draft { place = place.Life; lives = draft.lives ++ no_steps version ∷ [] })
-add_line draft (line.Asks reader ask) = add_asked draft reader ask
-add_line draft (line.Does step count) = Ok (record draft { lives = on_last (add_step (step, count)) draft.lives })
-add_line draft line.Closes = Ok (record draft { place = place.Closed })
-add_line draft line.Ends = Ok (record draft { place = place.Ended })
+add_line draft line.head = Ok (record draft { place = place.Head })
+add_line draft (line.patience_of polls) = Ok (record draft { patience = Some polls })
+add_line draft line.owns_all = Ok (record draft { own = all_keys ∷ [] })
+add_line draft line.log_begins = Ok (record draft { place = place.Log })
+add_line draft (line.batch_of version) = add_batch draft version
+add_line draft (line.changes mutation) = Ok (record draft { log = on_last (add_mutation mutation) draft.log })
+add_line draft (line.life_to version) = Ok (record draft { place = place.Life; lives = draft.lives ++ no_steps version ∷ [] })
+add_line draft (line.asks reader ask) = add_asked draft reader ask
+add_line draft (line.does step count) = Ok (record draft { lives = on_last (add_step (step, count)) draft.lives })
+add_line draft line.closes = Ok (record draft { place = place.Closed })
+add_line draft line.ends = Ok (record draft { place = place.Ended })

@@ -7,12 +7,33 @@ use Rattle.st_fold.specs.declared.plan.Do.{Do}
 use Rattle.st_fold.specs.declared.plan.Do.TheVariants as step
 use Rattle.st_fold.specs.declared.plan.Kind.{Kind}
 use Rattle.st_fold.specs.declared.plan.Kind.TheVariants as kind
-use Rattle.st_script.specs.declared.line.Form.{Form}
-use Rattle.st_script.specs.declared.line.Form.TheVariants as form
-use Rattle.st_script.specs.declared.line.Line.{Line}
-use Rattle.st_script.specs.declared.line.Line.TheVariants as line
+use Rattle.st_fold.specs.declared.request.Ask.{Ask}
+use Rattle.st_mutation.specs.declared.batch.Mutation.{Mutation}
+use Rattle.st_script.specs.declared.form.Form.{Form}
+use Rattle.st_script.specs.declared.form.Form.TheVariants as form
 use Rattle.st_script.specs.Fields.{is_word, number_field, max_version, bytes_field, key_field, value_field, range_of, ◌>>=◌}
 use Rattle.st_script.specs.Requests.{is_request, request_of}
+
+-- what a line says
+pub data Line : Type 0 where
+  -- the first line
+  head : Line
+  -- a request whose version has not come after this number of polls is refused
+  patience_of : ℕ → Line
+  -- the server owns all keys
+  owns_all : Line
+  log_begins : Line
+  -- a batch of this version begins
+  batch_of : ℕ → Line
+  changes : Mutation → Line
+  -- a life begins that applies versions up to this one
+  life_to : ℕ → Line
+  -- this reader asks, or none (0) at the end of the life
+  asks : ℕ → Ask → Line
+  -- a step, so often
+  does : Do → ℕ → Line
+  closes : Line
+  ends : Line
 
 -- the forms, each by its first word
 abbrev pub forms : List (List ℕ × Form)
@@ -36,12 +57,12 @@ form_of word = form_in forms word
 abbrev pub patience_line : List ℕ → Result Line Kind
 patience_line word = do
   polls ← number_field 1 1000 word
-  Ok (line.PatienceOf polls)
+  Ok (patience_of polls)
 
 abbrev pub batch_line : List ℕ → Result Line Kind
 batch_line word = do
   version ← number_field 1 max_version word
-  Ok (line.BatchOf version)
+  Ok (batch_of version)
 
 -- a key and a value
 abbrev pub pair_of : (key value : List ℕ) → Result (List ℕ × List ℕ) Kind
@@ -60,19 +81,19 @@ clear_line begin end = do
   begin ← bytes_field begin
   end ← bytes_field end
   range ← range_of begin end
-  Ok (line.Changes (Clear range))
+  Ok (changes (Clear range))
 
 abbrev pub life_line : List ℕ → Result Line Kind
 life_line word = do
   version ← number_field 0 max_version word
-  Ok (line.LifeTo version)
+  Ok (life_to version)
 
 -- a request of a reader from 1 to 64
 abbrev pub asked_by : List ℕ → List (List ℕ) → Result Line Kind
 asked_by reader request = do
   number ← number_field 1 64 reader
   ask ← request_of request
-  Ok (line.Asks number ask)
+  Ok (asks number ask)
 
 abbrev pub ask_line : List (List ℕ) → Result Line Kind
 ask_line [] = Err kind.Word
@@ -82,17 +103,17 @@ ask_line (reader ∷ request) = if is_request request then asked_by reader reque
 abbrev pub asked_at_end : List (List ℕ) → Result Line Kind
 asked_at_end request = do
   ask ← request_of request
-  Ok (line.Asks 0 ask)
+  Ok (asks 0 ask)
 
 abbrev pub last_line : List (List ℕ) → Result Line Kind
 last_line request = if is_request request then asked_at_end request else Err kind.Word
 
 -- a step, so often
 abbrev pub step_line : Do → Option (List ℕ) → Result Line Kind
-step_line done None = Ok (line.Does done 1)
+step_line done None = Ok (does done 1)
 step_line done (Some word) = do
   count ← number_field 1 1000000 word
-  Ok (line.Does done count)
+  Ok (does done count)
 
 -- `apply`, once or so often
 abbrev pub apply_line : List (List ℕ) → Result Line Kind
@@ -121,24 +142,24 @@ do_line (act ∷ words) =
 -- What the words after the first say. A wrong number of words, or an unknown one, is told before what single words
 -- stand for, of these the first from the left is told, and then what they are together
 abbrev pub line_of : Form → List (List ℕ) → Result Line Kind
-line_of form.Storage words = Ok line.Head
+line_of form.Storage words = Ok head
 line_of form.Patience (polls ∷ []) = patience_line polls
 line_of form.Patience words = Err kind.Word
-line_of form.Own words = Ok line.OwnsAll
-line_of form.Log [] = Ok line.LogBegins
+line_of form.Own words = Ok owns_all
+line_of form.Log [] = Ok log_begins
 line_of form.Log (word ∷ words) = Err kind.Word
 line_of form.Batch (version ∷ []) = batch_line version
 line_of form.Batch words = Err kind.Word
-line_of form.Set words = pair_in words >>= λ pair. Ok (line.Changes (Set pair.0 pair.1))
+line_of form.Set words = pair_in words >>= λ pair. Ok (changes (Set pair.0 pair.1))
 line_of form.Clear (begin ∷ end ∷ []) = clear_line begin end
 line_of form.Clear words = Err kind.Word
-line_of (form.Atomic op) words = pair_in words >>= λ pair. Ok (line.Changes (Atomic op pair.0 pair.1))
+line_of (form.Atomic op) words = pair_in words >>= λ pair. Ok (changes (Atomic op pair.0 pair.1))
 line_of form.Life (version ∷ []) = life_line version
 line_of form.Life words = Err kind.Word
 line_of form.Ask words = ask_line words
 line_of form.Last words = last_line words
 line_of form.Do words = do_line words
-line_of form.Close [] = Ok line.Closes
+line_of form.Close [] = Ok closes
 line_of form.Close (word ∷ words) = Err kind.Word
-line_of form.End [] = Ok line.Ends
+line_of form.End [] = Ok ends
 line_of form.End (word ∷ words) = Err kind.Word

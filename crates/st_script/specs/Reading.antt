@@ -5,9 +5,9 @@ use Rattle.st_fold.specs.declared.plan.Kind.{Kind}
 use Rattle.st_fold.specs.declared.plan.Kind.TheVariants as kind
 use Rattle.st_fold.specs.declared.plan.Script.{Script}
 use Rattle.st_fold.specs.declared.plan.Settings.{Settings}
-use Rattle.st_script.specs.declared.line.Form.{Form}
-use Rattle.st_script.specs.declared.line.Place.{Place}
-use Rattle.st_script.specs.declared.line.Place.TheVariants as place
+use Rattle.st_script.specs.declared.form.Form.{Form}
+use Rattle.st_script.specs.declared.form.Place.{Place}
+use Rattle.st_script.specs.declared.form.Place.TheVariants as place
 use Rattle.st_script.specs.Words.{lines, words, is_skipped}
 use Rattle.st_script.specs.Fields.{is_word, ◌>>=◌}
 use Rattle.st_script.specs.Lines.{form_of, line_of}

@@ -9,6 +9,7 @@ ghost use Rattle.st_script.specs.Reading.{script_of};
 
 mod draft;
 mod field;
+mod form;
 mod line;
 mod refusal;
 mod request;

@@ -3,7 +3,7 @@ use Rattle.std.proofs.lemmas.Iterator.{YieldsList-from_slice}
 use Rattle.std.proofs.lemmas.Iterator.Search.{any_from_yields_List}
 use Rattle.st_script.specs.Fields.{is_word}
 use Rattle.st_script.proofs.Drafts.{list_any-map}
-use Rattle.st_script.proofs.draft.is_among.Goals as goal
+use Rattle.st_script.proofs.draft.later.is_among.Goals as goal
 
 pub returns : goal.returns
 returns c =

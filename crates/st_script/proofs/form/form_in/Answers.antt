@@ -3,7 +3,7 @@ use Rattle.std.proofs.lemmas.Iterator.{YieldsList-from_slice}
 use Rattle.std.proofs.lemmas.Iterator.Search.{find_from_yields_List}
 use Rattle.st_script.specs.Fields.{is_word}
 use Rattle.st_script.proofs.Drafts.{find-map}
-use Rattle.st_script.proofs.line.form_in.Goals as goal
+use Rattle.st_script.proofs.form.form_in.Goals as goal
 
 -- a value that is made of another, where there is one
 mapped : {A B : Type 0} (f : A → B) (o : Option A) (r : Option B) (makes : A → B → Type 0) → MatchOption o (r ≡ None) (λ x. IsSomeAnd r (makes x)) → ((x : A) (y : B) → makes x y → y ≡ f x) → r ≡ option_map f o

@@ -38,8 +38,9 @@ pub data Line : Type 0 where
 -- the forms, each by its first word
 abbrev pub forms : List (List ℕ × Form)
 forms =
-    (codes "storage", form.Storage) ∷ (codes "patience", form.Patience) ∷ (codes "own", form.Own) ∷ (codes "log", form.Log)
-    ∷ (codes "batch", form.Batch) ∷ (codes "set", form.Set) ∷ (codes "clear", form.Clear) ∷ (codes "add", form.Atomic Add)
+    (codes "set", form.Set) ∷ (codes "batch", form.Batch) ∷ (codes "storage", form.Storage)
+    ∷ (codes "patience", form.Patience) ∷ (codes "own", form.Own) ∷ (codes "log", form.Log)
+    ∷ (codes "clear", form.Clear) ∷ (codes "add", form.Atomic Add)
     ∷ (codes "and", form.Atomic And) ∷ (codes "or", form.Atomic Or) ∷ (codes "xor", form.Atomic Xor)
     ∷ (codes "max", form.Atomic Max) ∷ (codes "min", form.Atomic Min) ∷ (codes "byte_min", form.Atomic ByteMin)
     ∷ (codes "byte_max", form.Atomic ByteMax) ∷ (codes "append", form.Atomic AppendIfFits)

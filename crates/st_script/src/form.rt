@@ -25,14 +25,14 @@ pub enum Form {
     End,
 }
 
-// The forms, each by its first word.
+// The forms, each by its first word. Most lines are sets and batches, which are found first.
 const FORMS: [(&[u8], Form); 23] = [
+    (b"set", Form::Set),
+    (b"batch", Form::Batch),
     (b"storage", Form::Storage),
     (b"patience", Form::Patience),
     (b"own", Form::Own),
     (b"log", Form::Log),
-    (b"batch", Form::Batch),
-    (b"set", Form::Set),
     (b"clear", Form::Clear),
     (b"add", Form::Atomic(AtomicOp::Add)),
     (b"and", Form::Atomic(AtomicOp::And)),

@@ -1,4 +1,4 @@
-//! Keeps the keys and values of a script in one buffer.
+//! Keeps the keys and values of a script in a few buffers.
 ghost use Rattle.st_script.specs.Fields.{bytes_field};
 ghost use Rattle.st_script.specs.Outcome.{Says};
 
@@ -8,17 +8,23 @@ use bytes::{Bytes, BytesMut};
 use st_fold::Kind;
 use std::alloc::{AllocError, Global};
 
-/// A buffer that hex is decoded into. What it hands out are slices of it, which share it.
+/// How many bytes a buffer has, unless one word needs more. It is filled with zeros first, so that one for a whole script
+/// would cost as much where little is decoded.
+const BUFFER: usize = 1_048_576;
+
+/// A buffer that hex is decoded into, and after it a new one. What it hands out are slices of them, which share them.
 #[derive(Drop)]
 pub(crate) struct Store {
+    alloc: Global,
     buffer: BytesMut,
 }
 
 impl Store {
-    /// A store with room for all that a script of this length may decode to: two digits make a byte.
+    /// A store for a script of this length: two digits make a byte.
     pub(crate) fn new(alloc: Global, length: usize) -> Result<Store, AllocError> {
         Ok(Store {
-            buffer: BytesMut::with_capacity(alloc, length / 2)?,
+            alloc,
+            buffer: BytesMut::with_capacity(alloc, BUFFER.min(length / 2))?,
         })
     }
 
@@ -31,6 +37,9 @@ impl Store {
         }
         let count = word.len() / 2;
         self.buffer.clear();
+        if self.buffer.capacity() < count {
+            self.buffer = BytesMut::with_capacity(self.alloc, BUFFER.max(count))?;
+        }
         self.buffer.reserve(count)?;
         self.buffer.advance_mut(count);
         if hex::decode_to_slice(word, self.buffer.as_mut_slice()).is_err() {

@@ -43,22 +43,23 @@ none-below low (batch ∷ log) rises = by_test (nat_le batch.version 0) refl (no
     by_test false is later = later
 
 -- a store without a frame is the log's before it begins
+pub agrees-fresh : (own : List Span) (log : List Batch) → Rises 0 log → Agrees own log (opened_fresh own)
+agrees-fresh own log rises = record {
+  version = refl;
+  assigned_is = ap (fold (λ spans batch. fold move_span spans batch.moves) own) (sym nothing);
+  base = ap (λ batches. filter (λ pair. holds own pair.0) (fold apply_batch [] batches)) (sym nothing);
+}
+  where
+    nothing : batches_to 0 log ≡ []
+    nothing = none-below 0 log rises
+
 pub opens-untouched : (given : Given) (opening : Opening) (pairs : Map) (files : Files) → Rises 0 given.log → MountsTo pairs files
     → is_none_read (frames_of files) ≡ true → opening ≡ record { version = 0; available = given.own }
     → OpenTo given (λ one. one ≡ opening) files
 opens-untouched given opening pairs files rises mounts none is =
     subst (λ r. IsOkAnd r (λ one. (opening_of one ≡ opening) × Agrees given.own given.log one))
-    (sym (opens-as given.own pairs files mounts ∙ ap (λ fresh. result_map_both (λ one. one) Meta (opened_as given.own fresh pairs)) none)) (
-      sym is,
-      record {
-        version = refl;
-        assigned_is = ap (fold (λ spans batch. fold move_span spans batch.moves) given.own) (sym nothing);
-        base = ap (λ batches. filter (λ pair. holds given.own pair.0) (fold apply_batch [] batches)) (sym nothing);
-      },
-    )
-  where
-    nothing : batches_to 0 given.log ≡ []
-    nothing = none-below 0 given.log rises
+    (sym (opens-as given.own pairs files mounts ∙ ap (λ fresh. result_map_both (λ one. one) Meta (opened_as given.own fresh pairs)) none))
+    (sym is, agrees-fresh given.own given.log rises)
 
 abbrev Sorted : Map → Type 0
 Sorted pairs = IsTrue (is_sorted (slice_cmp nat_cmp) pairs)

@@ -10,9 +10,11 @@ ghost use Rattle.st_fold.specs.declared.report.Damage.TheVariants.{Meta};
 ghost use Rattle.st_key.specs.Spans.{Span, all_keys, holds, within};
 ghost use Rattle.st_meta.specs.Stored.{is_range};
 ghost use Rattle.st_model.specs.State.{Given, Opening};
+ghost use Rattle.st_mutation.specs.declared.batch.Batch.{Batch};
 ghost use Rattle.st_queue.specs.Writing.{frames_of};
 ghost use Rattle.st_restart.specs.After.{IsStoreOf, OpenTo};
-ghost use Rattle.st_restart.specs.Opened.{opened, opened_as};
+ghost use Rattle.st_restart.specs.Agreement.{Agrees};
+ghost use Rattle.st_restart.specs.Opened.{opened, opened_as, opened_fresh};
 
 use st_engine::mounted_maps_are_in_order;
 use st_fold::folds_are_in_order;
@@ -24,9 +26,10 @@ pub fn files_open_as_they_mount()
         → opened own files ≡ result_map_both (λ opened. opened) Meta (opened_as own (is_none_read (frames_of files)) pairs) }
 {}
 
-/// Files without a frame open to what the server owns before the log begins. Files that mount to the map of an opening open
-/// to that opening.
+/// A store without a frame is that of a log before it begins. Files without one open to what the server owns then. Files that
+/// mount to the map of an opening open to that opening.
 pub fn stores_open()
+    ensures fresh { (own : List Span) (log : List Batch) → Rises 0 log → Agrees own log (opened_fresh own) }
     ensures untouched { (given : Given) (opening : Opening) (pairs : Map) (files : Files) → Rises 0 given.log → MountsTo pairs files
         → is_none_read (frames_of files) ≡ true → opening ≡ record { version = 0; available = given.own }
         → OpenTo given (λ one. one ≡ opening) files }

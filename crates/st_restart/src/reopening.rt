@@ -82,6 +82,7 @@ fn opening_with(alloc: Global, mut pairs: PTree<Bytes>, meta: Meta) -> Result<Op
     requires { Stores (pairs_of pairs) meta }
     ensures opened { IfOk result (λ o. as_opened false o ≡ opened_with (pairs_of pairs) meta) }
     ensures clears { IfOk result (λ o. o.clears.items ≡ clears_of false o.available) }
+    ensures stored { IfOk result (λ o. record { version = o.version; assigned = o.assigned; available = o.available } ≡ meta) }
 {
     spans_are_put_in_and_taken_out();
     let others = unavailable(alloc, &meta.available)?;
@@ -106,6 +107,8 @@ pub fn reopen<D: Disk>(
 ) -> Result<Opening, MetaRefusal>
     ensures opened { OpensAs engine.now.store.fresh result (opened_as own.now engine.now.store.fresh engine.now.store.pairs) }
     ensures clears { IfOk result (λ o. o.clears.items ≡ clears_of engine.now.store.fresh o.available) }
+    ensures stored { IfOk result (λ o. engine.now.store.fresh ≡ false
+        → Stores engine.now.store.pairs (record { version = o.version; assigned = o.assigned; available = o.available })) }
 {
     if engine.is_fresh() {
         return Ok(Opening {

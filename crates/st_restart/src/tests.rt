@@ -1,4 +1,4 @@
-ghost use Rattle.std.specs.Prelude.{◌≤◌, ◌^◌};
+ghost use Rattle.std.specs.Prelude.{◌≡◌, ◌<◌};
 
 use super::*;
 use st_board::Opening;
@@ -35,19 +35,20 @@ const COMMITTED: &[u8] = b"\
 const EMPTY_COMMIT: &[u8] =
     b"\x01STORQUE\x01\0\0\0\x01\0\0\0\0\0\0\0\0\0\0\0\0\0\0\0\x01\x01\0\0\0\0\0\0\0\0\0\0\0\x05\0";
 
+const SETTINGS: Settings = Settings {
+    window: 1,
+    patience: 3,
+    seed: 1,
+    swap: 64,
+    limit: 1024,
+    quota: 1,
+    block: 1,
+    watches: 1,
+};
+
 fn mount(alloc: Global, file: &[u8]) -> Result<Engine<Memory>, Fail> {
-    let settings = Settings {
-        window: 1,
-        patience: 3,
-        seed: 1,
-        swap: 1 << 20,
-        limit: 1 << 28,
-        quota: 4096,
-        block: 100,
-        watches: 100,
-    };
     let disk = Memory::with(alloc, Vec::from_slice(alloc, file)?, Vec::new(alloc));
-    match Engine::mount(alloc, disk, &settings) {
+    match Engine::mount(alloc, disk, &SETTINGS) {
         Ok(engine) => Ok(engine),
         Err(EngineMount { disk: _, why: _ }) => Err("the files don't mount")?,
     }
@@ -69,6 +70,18 @@ fn batch(alloc: Global, version: u64, value: &[u8]) -> Result<Batch, Fail> {
     })
 }
 
+// The store of the commit.
+fn committed(alloc: Global) -> Result<Engine<Memory>, Fail> {
+    mount(alloc, COMMITTED)
+}
+
+fn opened(alloc: Global, engine: &Engine<Memory>, own: &Ranges) -> Result<Opening, Fail> {
+    match reopen(alloc, engine, own) {
+        Ok(opening) => Ok(opening),
+        Err(_) => Err("a store is refused")?,
+    }
+}
+
 fn value_in<L: Ledger>(opening: &Opening, key: &[u8], blank: Blank) -> Option<u8>
     requires name { blank.name ≡ L.name }
     requires parts { blank.parts ≡ L.parts }
@@ -83,78 +96,104 @@ fn value_in<L: Ledger>(opening: &Opening, key: &[u8], blank: Blank) -> Option<u8
         .copied()
 }
 
+fn value(opening: &Opening, key: &[u8]) -> Option<u8> {
+    value_in::<Brand>(opening, key, Blank::new(1))
+}
+
 #[test]
-fn stores_open_as_their_files_say(rt: HostRuntime) -> Result<(), Fail> {
+fn a_fresh_store_opens_with_what_is_owned(rt: HostRuntime) -> Result<(), Fail> {
     let alloc = rt.alloc();
-    let own = all_keys(alloc)?;
-    let Ok(fresh) = reopen(alloc, &mount(alloc, b"")?, &own) else {
-        return Err("a fresh store is refused")?;
-    };
+    let fresh = opened(alloc, &mount(alloc, b"")?, &all_keys(alloc)?)?;
     assert_eq!(rt; fresh.version, 0);
     assert!(rt; fresh.base.is_empty());
     assert!(rt; fresh.available.contains(b"a"));
-    let nothing = Ranges::new(alloc);
-    let Ok(opening) = reopen(alloc, &mount(alloc, COMMITTED)?, &nothing) else {
-        return Err("a store is refused")?;
-    };
+    Ok(())
+}
+
+#[test]
+fn a_store_opens_as_its_files_say(rt: HostRuntime) -> Result<(), Fail> {
+    let alloc = rt.alloc();
+    let opening = opened(alloc, &committed(alloc)?, &Ranges::new(alloc))?;
     assert_eq!(rt; opening.version, 1);
     assert!(rt; opening.available.contains(b"a"));
     assert!(rt; opening.clears.is_empty());
-    assert_eq!(rt;
-        value_in::<Brand>(&opening, b"a", Blank::new(1)),
-        Some(b'1')
-    );
-    assert_eq!(rt;
-        value_in::<Brand>(&opening, b"\xff\xff/version", Blank::new(1)),
-        None
-    );
-    match reopen(alloc, &mount(alloc, EMPTY_COMMIT)?, &own) {
+    assert_eq!(rt; value(&opening, b"a"), Some(b'1'));
+    assert_eq!(rt; value(&opening, b"\xff\xff/version"), None);
+    Ok(())
+}
+
+#[test]
+fn a_store_without_a_state_is_refused(rt: HostRuntime) -> Result<(), Fail> {
+    let alloc = rt.alloc();
+    match reopen(alloc, &mount(alloc, EMPTY_COMMIT)?, &all_keys(alloc)?) {
         Err(MetaRefusal::BadMeta { which }) => assert!(rt; which == MetaPart::Version),
         _ => Err("a store without a state opens")?,
     }
     Ok(())
 }
 
-// What of the store of the commit isn't that of a log.
-fn told(alloc: Global, own: &Ranges, log: &[Batch]) -> Result<u8, Fail> {
-    let engine = mount(alloc, COMMITTED)?;
-    let Ok(opening) = reopen(alloc, &engine, own) else {
-        return Err("a store is refused")?;
-    };
-    match agree(alloc, &engine, &opening, own, log) {
-        Ok(()) => Ok(0),
-        Err(AgreeRefusal::Foreign(ForeignPart::Version)) => Ok(1),
-        Err(AgreeRefusal::Foreign(ForeignPart::Assigned)) => Ok(2),
-        Err(AgreeRefusal::Foreign(ForeignPart::Key(key))) => {
-            Ok(key.as_slice().first().copied().unwrap_or(0))
-        }
+// What of a store isn't that of a log.
+fn foreign_part(
+    alloc: Global,
+    engine: &Engine<Memory>,
+    own: &Ranges,
+    log: &[Batch],
+) -> Result<Option<ForeignPart>, Fail> {
+    let opening = opened(alloc, engine, own)?;
+    match agree(alloc, engine, &opening, own, log) {
+        Ok(()) => Ok(None),
+        Err(AgreeRefusal::Foreign(part)) => Ok(Some(part)),
         Err(AgreeRefusal::NoMemory) => Err("no memory")?,
     }
 }
 
 #[test]
-fn stores_agree_with_their_logs(rt: HostRuntime) -> Result<(), Fail> {
+fn a_store_is_that_of_its_log(rt: HostRuntime) -> Result<(), Fail> {
     let alloc = rt.alloc();
     let own = all_keys(alloc)?;
-    let one = batch(alloc, 1, b"1")?;
-    assert_eq!(rt; told(alloc, &own, &[one, batch(alloc, 2, b"2")?])?, 0);
-    assert_eq!(rt; told(alloc, &own, &[batch(alloc, 1, b"2")?])?, b'a');
-    assert_eq!(rt; told(alloc, &own, &[batch(alloc, 2, b"1")?])?, 1);
-    assert_eq!(rt;
-        told(alloc, &Ranges::new(alloc), &[batch(alloc, 1, b"1")?])?,
-        2
+    let log = [batch(alloc, 1, b"1")?, batch(alloc, 2, b"2")?];
+    assert!(rt; foreign_part(alloc, &committed(alloc)?, &own, &log)?.is_none());
+    // a fresh store is that of each log
+    assert!(rt; foreign_part(alloc, &mount(alloc, b"")?, &own, &log)?.is_none());
+    Ok(())
+}
+
+#[test]
+fn a_store_of_another_log_is_refused(rt: HostRuntime) -> Result<(), Fail> {
+    let alloc = rt.alloc();
+    let engine = committed(alloc)?;
+    let own = all_keys(alloc)?;
+    match foreign_part(alloc, &engine, &own, &[batch(alloc, 1, b"2")?])? {
+        Some(ForeignPart::Key(key)) => assert!(rt; key.as_slice() == b"a".as_slice()),
+        _ => Err("another value is taken for the log's")?,
+    }
+    assert!(rt;
+        matches!(
+            foreign_part(alloc, &engine, &own, &[batch(alloc, 2, b"1")?])?,
+            Some(ForeignPart::Version)
+        )
     );
-    // what no move gave isn't assigned, and what one gave is
+    assert!(rt;
+        matches!(
+            foreign_part(
+                alloc,
+                &engine,
+                &Ranges::new(alloc),
+                &[batch(alloc, 1, b"1")?]
+            )?,
+            Some(ForeignPart::Assigned)
+        )
+    );
+    Ok(())
+}
+
+#[test]
+fn what_a_move_gave_is_assigned(rt: HostRuntime) -> Result<(), Fail> {
+    let alloc = rt.alloc();
     let mut moves = Items::new(alloc);
     moves.push(Move::Assign(Range::new(Key::end(alloc, b"")?, Key::end(alloc, b"\xff")?)?))?;
     let mut given = batch(alloc, 1, b"1")?;
     given.moves = moves;
-    assert_eq!(rt; told(alloc, &Ranges::new(alloc), &[given])?, 0);
-    // a fresh store is that of each log
-    let engine = mount(alloc, b"")?;
-    let Ok(fresh) = reopen(alloc, &engine, &own) else {
-        return Err("a fresh store is refused")?;
-    };
-    assert!(rt; agree(alloc, &engine, &fresh, &own, &[]).is_ok());
+    assert!(rt; foreign_part(alloc, &committed(alloc)?, &Ranges::new(alloc), &[given])?.is_none());
     Ok(())
 }

@@ -1,16 +1,20 @@
 -- Acts that follow one another.
-use Rattle.std.proofs.Common.{◌≡◌, ◌∙◌, ◌+◌, ◌≤◌, ◌<◌, ◌++◌, ℕ, Bool, true, false, if◌then◌else◌, List, [], ◌∷◌, fold, take, drop, length, get_or, is_some, IsTrue, Option, Some, None, refl, sym, ap, subst, arith, append_assoc}
+use Rattle.std.proofs.Common.{◌≡◌, ◌∙◌, ◌+◌, ◌≤◌, ◌<◌, ◌++◌, ℕ, Bool, true, false, if◌then◌else◌, List, [], ◌∷◌, fold, take, drop, length, get_or, is_some, IfSome, IsTrue, Option, Some, None, refl, sym, ap, subst, arith, append_assoc}
 use Rattle.std.specs.List.{cons_option}
 use Rattle.std.proofs.lemmas.List.{append-nil, length-append, take-append-drop, take_more}
 use Rattle.std.proofs.lemmas.List.Sums.{fold-append}
 use Rattle.st_core.specs.Acts.{act_on, event_of, reached_by, to}
 use Rattle.st_core.specs.Refusing.{IsRefused, IsWell}
-use Rattle.st_core.specs.Server.{IsStopped, OpenWithin, Serving}
+use Rattle.st_core.specs.Driving.{IsRun, IsStopped, ran_at, run_on}
+use Rattle.st_core.specs.Server.{OpenWithin, Serving}
 use Rattle.st_core.specs.declared.refusal.DriveRefusal.{DriveRefusal}
 use Rattle.st_core.proofs.Acting.{acted-trace}
 use Rattle.st_core.proofs.Refusals.{well-joined, well-same}
+use Rattle.st_core.proofs.Running.{run-more, run-same}
 use Rattle.st_core.proofs.Moments.{told-joined, told-weaker, within-earlier, within-longer}
+use Rattle.st_disk.specs.Calls.{made}
 use Rattle.st_disk.specs.History.{History}
+use Rattle.st_disk.specs.Recorded.{Call}
 use Rattle.st_disk.specs.Moments.{ToldLeavesOnly}
 use Rattle.st_fold.specs.declared.plan.Act.{Act}
 use Rattle.st_fold.specs.declared.report.Event.{Event}
@@ -24,17 +28,18 @@ pub at_most : (b : Bool) → made_by b ≤ 1
 at_most true = omega arith
 at_most false = omega arith
 
-module _ {D P : Type 0} (given : Given) (opening : Opening) (upto : ℕ) (told : D → Option History) (count : D → ℕ) (old : Serving D P) (acts : List Act) where
+module _ {D P : Type 0} (given : Given) (opening : Opening) (fresh : Bool) (upto : ℕ) (told : D → Option History) (count : D → ℕ) (old : Serving D P) (acts : List Act) where
   -- so many of the acts were done, and made so many events
   pub record Driven (now : Serving D P) (at done : ℕ) : Type 0 where
     pub acted : reached_by now.board ≡ fold (act_on (to upto given)) (reached_by old.board) (take at acts)
     pub counted : length now.board.trace ≡ length old.board.trace + done
     pub few : done ≤ at
     pub well : IsWell count old.engine now.engine
+    pub ran : IfSome (told old.engine.disk) (λ h. IsRun told h now.engine (fold (run_on given opening fresh old.engine.bounds upto) (ran_at old.board old.engine h) (take at acts)))
     pub opened : ToldLeavesOnly (told old.engine.disk) (told now.engine.disk) (OpenWithin given opening (length old.board.trace) now.board.trace)
 
   pub driven-first : ToldLeavesOnly (told old.engine.disk) (told old.engine.disk) (OpenWithin given opening (length old.board.trace) old.board.trace) → Driven old 0 0
-  driven-first opened = record { acted = refl; counted = omega arith; few = omega arith; well = well-same count old.engine old.engine refl; opened = opened }
+  driven-first opened = record { acted = refl; counted = omega arith; few = omega arith; well = well-same count old.engine old.engine refl; ran = run-same told old.engine old.engine (ran_at old.board old.engine) refl (λ h. refl) (λ h. refl); opened = opened }
 
   one-event : (o : Option Event) (is_made : Bool) → is_made ≡ is_some o → length (cons_option o []) ≡ made_by is_made
   one-event None is_made is = ap made_by (sym is)
@@ -56,8 +61,10 @@ module _ {D P : Type 0} (given : Given) (opening : Opening) (upto : ℕ) (told :
       → reached_by next.board ≡ act_on (to upto given) (reached_by now.board) (get_or acts at default)
       → ToldLeavesOnly (told now.engine.disk) (told next.engine.disk) (OpenWithin given opening (length now.board.trace) next.board.trace)
       → IsWell count now.engine next.engine
+      → ((first second : List Call) (h : History) → made (first ++ second) h ≡ made second (made first h))
+      → IfSome (told now.engine.disk) (λ h. IsRun told h next.engine (run_on given opening fresh now.engine.bounds upto (ran_at now.board now.engine h) (get_or acts at default)))
       → Driven next (at + 1) (done + made_by is_made)
-  driven-more now next at done default is_made driven inside made acted opens well = record {
+  driven-more now next at done default is_made driven inside made acted opens well join ran = record {
     acted =
         acted
         ∙ ap (λ r. act_on (to upto given) r action) driven.acted
@@ -68,6 +75,10 @@ module _ {D P : Type 0} (given : Given) (opening : Opening) (upto : ℕ) (told :
         ∙ (let count = driven.counted in let one = one-event (event_of (to upto given) now.board.state action) is_made made in omega arith);
     few = let few = driven.few in let one : made_by is_made ≤ 1 = at_most is_made in omega arith;
     well = well-joined count old.engine now.engine next.engine driven.well well;
+    ran =
+        subst (λ acts. IfSome (told old.engine.disk) (λ h. IsRun told h next.engine (fold (run_on given opening fresh old.engine.bounds upto) (ran_at old.board old.engine h) acts)))
+        (sym (take_more acts at default inside))
+        (run-more given opening fresh upto told old.board now.board old.engine now.engine next.engine (take at acts) action join driven.well.bounds driven.acted driven.ran ran);
     opened = opened-more now next at done more driven longer opens;
   }
     where
@@ -84,7 +95,7 @@ module _ {D P : Type 0} (given : Given) (opening : Opening) (upto : ℕ) (told :
   pub driven-stopped : (now next : Serving D P) (at done : ℕ) (default : Act) (why : DriveRefusal) → Driven now at done → at < length acts
       → next.board ≡ now.board → IsTrue (is_some (event_of (to upto given) now.board.state (get_or acts at default)))
       → IsRefused told count now.engine next.engine next.flight (get_or acts at default) why
-      → IsStopped given upto told count old acts next why
+      → IsStopped given opening fresh upto told count old acts next why
   driven-stopped now next at done default why driven inside same due refused = record {
     done = take at acts;
     stop = get_or acts at default;
@@ -97,6 +108,7 @@ module _ {D P : Type 0} (given : Given) (opening : Opening) (upto : ℕ) (told :
     due = subst (λ board. IsTrue (is_some (event_of (to upto given) board.state (get_or acts at default)))) (sym same) due;
     before = now.engine;
     well = driven.well;
+    ran = driven.ran;
     refused = refused;
   }
 

@@ -9,5 +9,6 @@ mod Ending
 mod Due
 mod Beginning
 mod Refusals
+mod Running
 mod Driving
 mod Rows

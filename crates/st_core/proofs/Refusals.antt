@@ -1,10 +1,12 @@
 -- What a refusal leaves.
-use Rattle.std.proofs.Common.{◌≡◌, ◌∙◌, ℕ, Option, inr, refl, ap}
+use Rattle.std.proofs.Common.{◌≡◌, ◌∙◌, ◌⊎◌, ℕ, List, Option, Some, None, Err, inl, inr, refl, sym, ap, subst}
 use Rattle.st_core.specs.Refusing.{IsOfCommit, IsRefused, IsWell, refused}
 use Rattle.st_course.specs.declared.job.CommitJob.{CommitJob}
 use Rattle.st_disk.specs.History.{History}
+use Rattle.st_engine.specs.Answers.{Answers, CameTo, Refuses}
 use Rattle.st_engine.specs.Engine.{Mounted}
 use Rattle.st_fold.specs.declared.plan.Act.TheVariants.{Durable}
+use Rattle.st_ops.specs.declared.op.Op.{Op}
 use Rattle.st_queue.specs.declared.frame.QueueRefusal.{QueueRefusal}
 use Rattle.st_queue.specs.declared.frame.QueueRefusal.TheVariants.{Broken, Damaged, DiskFault, Full, NoMemory}
 
@@ -30,7 +32,20 @@ module _ {D : Type 0} (count : D → ℕ) where
   pub refused-commit : (told : D → Option History) (old new : Mounted D) (flight : Option CommitJob) (refusal : QueueRefusal)
       → IsOfCommit told count old new flight refusal → IsRefused told count old new flight Durable (refused refusal)
   refused-commit told old new flight NoMemory of = inr ((refl, of))
-  refused-commit told old new flight (DiskFault faults) of = (refl, of)
-  refused-commit told old new flight (Broken faults) of = (refl, of)
-  refused-commit told old new flight (Full length limit) of = (refl, of)
-  refused-commit told old new flight (Damaged file at) of = (refl, of)
+  refused-commit told old new flight (DiskFault faults) of = (refl, tt, of)
+  refused-commit told old new flight (Broken faults) of = (refl, tt, of)
+  refused-commit told old new flight (Full length limit) of = (refl, tt, of)
+  refused-commit told old new flight (Damaged file at) of = absurd (of.whole file at refl)
+
+-- a commit reads no file, so it finds none damaged
+pub never-damaged : {D T : Type 0} (told : D → Option History) (ops : List Op) (old new : Mounted D) (refusal : QueueRefusal)
+    → Refuses told ops old new refusal → Answers {T = T} ops old (Err refusal) → (file at : ℕ) → refusal ≡ Damaged file at → ⊥
+never-damaged told ops old new refusal refuses answers file at is = by_broken old.broken refl
+  where
+    unlike : (faults : ℕ) → (refusal ≡ Broken faults) ⊎ (refusal ≡ NoMemory) → ⊥
+    unlike faults (inl broken) = cc (sym is ∙ broken)
+    unlike faults (inr wanting) = cc (sym is ∙ wanting)
+
+    by_broken : (o : Option ℕ) → old.broken ≡ o → ⊥
+    by_broken None unbroken = subst (CameTo told ops old (told new.disk)) is (refuses.came_to unbroken)
+    by_broken (Some faults) broken = unlike faults (answers.was_broken faults broken)

@@ -1,3 +1,4 @@
 pub mod Acts
+pub mod Driving
 pub mod Refusing
 pub mod Server

@@ -33,11 +33,21 @@ pub record IsOfCommit {D : Type 0} (told : D → Option History) (count : D → 
   pub bounds : new.bounds ≡ old.bounds
   pub fault : (faults : ℕ) → refusal ≡ queue.DiskFault faults → (faults ≡ count new.disk) × (risen (count old.disk) ≤ count new.disk)
   pub broken : (faults : ℕ) → refusal ≡ queue.Broken faults → old.broken ≡ Some faults
+  -- a commit reads no file
+  pub whole : (file at : ℕ) → refusal ≡ queue.Damaged file at → ⊥
   pub full : (length limit : ℕ) → refusal ≡ queue.Full length limit
       → (old.broken ≡ None) × (past_for job.ops old ≡ Some (record { length = length; limit = limit }))
+
+-- what is told of a device: that it failed now or before, or that a file is full
+abbrev pub IsOfDevice : QueueRefusal → Type 0
+IsOfDevice (queue.DiskFault faults) = Unit {0}
+IsOfDevice (queue.Broken faults) = Unit {0}
+IsOfDevice (queue.Full length limit) = Unit {0}
+IsOfDevice (queue.Damaged file at) = ⊥
+IsOfDevice queue.NoMemory = ⊥
 
 -- Want of memory may refuse any act, and leaves the engine as it was, or ends no commit. The device refuses the end of a
 -- commit alone.
 abbrev pub IsRefused : {D : Type 0} → (D → Option History) → (D → ℕ) → Mounted D → Mounted D → Option CommitJob → Act → DriveRefusal → Type 0
 IsRefused told count old new flight act NoMemory = (new ≡ old) ⊎ (act ≡ Durable) × IsOfCommit told count old new flight queue.NoMemory
-IsRefused told count old new flight act (Device refusal) = (act ≡ Durable) × IsOfCommit told count old new flight refusal
+IsRefused told count old new flight act (Device refusal) = (act ≡ Durable) × IsOfDevice refusal × IsOfCommit told count old new flight refusal

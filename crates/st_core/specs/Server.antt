@@ -1,5 +1,5 @@
 -- A server: a board over an engine, a cursor over the log, and the job of the commit in flight.
-use Rattle.std.specs.Prelude.{◌≡◌, ◌≤◌, ◌⊎◌, ℕ, Bool, true, false, List, [], ◌∷◌, ◌++◌, filter, fold, take, length, is_some, Option, Some, None, IfSome, IsTrue}
+use Rattle.std.specs.Prelude.{◌≡◌, ◌≤◌, ◌⊎◌, ℕ, Bool, true, false, List, [], filter, take, length, Option, Some, None, IfSome, IsTrue}
 use Rattle.std.specs.Option.{ForSome}
 use Rattle.st_board.specs.Base.{AreChanges, Store}
 use Rattle.st_board.specs.Stands.{IsStill, Standing}
@@ -11,11 +11,7 @@ use Rattle.st_disk.specs.History.{Files, History, MayLeave}
 use Rattle.st_engine.specs.Engine.{Mounted}
 use Rattle.st_engine.specs.Holding.{Reads}
 use Rattle.st_engine.specs.Replay.{ops_on}
-use Rattle.st_core.specs.Acts.{act_on, event_of, reached_by, to}
-use Rattle.st_core.specs.Refusing.{IsRefused, IsWell}
-use Rattle.st_core.specs.declared.refusal.DriveRefusal.{DriveRefusal}
 use Rattle.st_fold.specs.Map.{Map}
-use Rattle.st_fold.specs.declared.plan.Act.{Act}
 use Rattle.st_fold.specs.declared.report.Event.{Event}
 use Rattle.st_key.specs.Spans.{holds}
 use Rattle.st_meta.specs.Stored.{IsState, Stores}
@@ -83,16 +79,3 @@ pub record OpenWithin (given : Given) (opening : Opening) (from : ℕ) (trace : 
   pub low : from ≤ place
   pub high : place ≤ length trace
   pub opens : OpenTo given (MayOpen (state_after given opening (take place trace))) files
-
--- Acts were done up to one that is due and was refused. No call of the device failed before that one.
-pub record IsStopped {D P : Type 0} (given : Given) (upto : ℕ) (told : D → Option History) (count : D → ℕ) (old : Serving D P)
-    (acts : List Act) (new : Serving D P) (why : DriveRefusal) : Type 0 where
-  pub done : List Act
-  pub stop : Act
-  pub left : List Act
-  pub whole : acts ≡ done ++ stop ∷ left
-  pub reached : reached_by new.board ≡ fold (act_on (to upto given)) (reached_by old.board) done
-  pub due : IsTrue (is_some (event_of (to upto given) new.board.state stop))
-  pub before : Mounted D
-  pub well : IsWell count old.engine before
-  pub refused : IsRefused told count before new.engine new.flight stop why

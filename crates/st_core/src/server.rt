@@ -3,8 +3,10 @@ ghost use Rattle.std.specs.Prelude.{◌≡◌, ◌≤◌, ◌+◌, ℕ, fold, No
 ghost use Rattle.st_board.specs.Base.{all_served};
 ghost use Rattle.st_board.specs.Stands.{IsStill};
 ghost use Rattle.st_core.specs.Acts.{act_on, event_of, reached_by, to};
+ghost use Rattle.st_core.specs.Driving.{IsRun, IsStopped, behind_flight, ran_at, run_on};
 ghost use Rattle.st_core.specs.Refusing.{IsOfCommit, IsRefused, IsWell};
-ghost use Rattle.st_core.specs.Server.{HoldsState, IsMade, IsStopped, OpenWithin};
+ghost use Rattle.st_core.specs.Server.{HoldsState, IsMade, OpenWithin};
+ghost use Rattle.st_course.specs.Course.{job_after};
 ghost use Rattle.st_disk.specs.History.{Files, MayLeave};
 ghost use Rattle.st_disk.specs.Moments.{ToldLeavesOnly};
 ghost use Rattle.st_fold.specs.declared.plan.Act.TheVariants as act;
@@ -16,7 +18,7 @@ use crate::DriveRefusal;
 use st_board::{ApplyRefusal, Board, CommitJob, Story};
 use st_course::course_goes_on;
 use st_cursor::Cursor;
-use st_disk::Disk;
+use st_disk::{Disk, calls_join};
 use st_engine::{Engine, EngineRefusal, operations_change_each_key};
 use st_fold::Act;
 use st_meta::written_is_stored;
@@ -178,6 +180,8 @@ impl<N: Story, D: Disk, P> Server<N, D, P> {
         ensures acted { OnOk result (reached_by self.new.board ≡ act_on N.given (reached_by self.old.board) act.Durable) }
         ensures due { OnErr result (IsTrue (is_some (event_of N.given self.old.board.state act.Durable))) }
         ensures any_moment { ToldLeavesOnly (D.history self.old.engine.disk) (D.history self.new.engine.disk) (OpenWithin N.given N.opening (length self.old.board.trace) self.new.board.trace) }
+        ensures ran { OnOk result (IfSome (D.history self.old.engine.disk) (λ h. IsRun D.history h self.new.engine
+            (behind_flight self.old.engine.bounds (ran_at self.old.board self.old.engine h) (job_after N.given N.opening N.store.fresh self.old.board.trace)))) }
         ensures well { OnOk result (IsWell D.fault_count self.old.engine self.new.engine) }
         ensures refused { IfErr result (IsOfCommit D.history D.fault_count self.old.engine self.new.engine self.new.flight) }
         ensures err { OnErr result (self.new.board ≡ self.old.board) }
@@ -221,6 +225,8 @@ impl<N: Story, D: Disk, P> Server<N, D, P> {
         ensures acted { OnOk result (reached_by self.new.board ≡ act_on (to upto N.given) (reached_by self.old.board) action) }
         ensures due { OnErr result (IsTrue (is_some (event_of (to upto N.given) self.old.board.state action))) }
         ensures any_moment { ToldLeavesOnly (D.history self.old.engine.disk) (D.history self.new.engine.disk) (OpenWithin N.given N.opening (length self.old.board.trace) self.new.board.trace) }
+        ensures ran { OnOk result (IfSome (D.history self.old.engine.disk) (λ h. IsRun D.history h self.new.engine
+            (run_on N.given N.opening N.store.fresh self.old.engine.bounds upto (ran_at self.old.board self.old.engine h) action))) }
         ensures well { OnOk result (IsWell D.fault_count self.old.engine self.new.engine) }
         ensures refused { IfErr result (IsRefused D.history D.fault_count self.old.engine self.new.engine self.new.flight action) }
         ensures err { OnErr result (self.new.board ≡ self.old.board) }
@@ -236,16 +242,20 @@ impl<N: Story, D: Disk, P> Server<N, D, P> {
     }
 
     /// Does these acts, one after the other, each where it is due, with no batch above `upto`; and answers how many made an
-    /// event. Where one that is due is refused, those before it stand; and the disk refuses none but the end of a commit. At each
-    /// moment meanwhile a crash leaves files that open behind the trace that it had come to.
+    /// event. The calls that it makes of the disk, and the store behind them, are those of the commits that it ended. Where one
+    /// that is due is refused, those before it stand; and the disk refuses none but the end of a commit. At each moment meanwhile
+    /// a crash leaves files that open behind the trace that it had come to.
     pub fn drive(&mut self, acts: &[Act], upto: u64) -> Result<u64, DriveRefusal>
         requires { upto ≤ N.given.upto }
         ensures told { IfOk result (λ done. length self.new.board.trace ≡ length self.old.board.trace + done) }
         ensures acted { OnOk result (reached_by self.new.board ≡ fold (act_on (to upto N.given)) (reached_by self.old.board) acts.now) }
-        ensures stopped { IfErr result (IsStopped N.given upto D.history D.fault_count self.old acts.now self.new) }
+        ensures stopped { IfErr result (IsStopped N.given N.opening N.store.fresh upto D.history D.fault_count self.old acts.now self.new) }
+        ensures ran { OnOk result (IfSome (D.history self.old.engine.disk) (λ h. IsRun D.history h self.new.engine
+            (fold (run_on N.given N.opening N.store.fresh self.old.engine.bounds upto) (ran_at self.old.board self.old.engine h) acts.now))) }
         ensures well { OnOk result (IsWell D.fault_count self.old.engine self.new.engine) }
         ensures any_moment { ToldLeavesOnly (D.history self.old.engine.disk) (D.history self.new.engine.disk) (OpenWithin N.given N.opening (length self.old.board.trace) self.new.board.trace) }
     {
+        calls_join();
         self.opens();
         let mut done = 0;
         for action in acts {

@@ -1,18 +1,23 @@
-use Rattle.std.proofs.Common.{◌≡◌, ◌∙◌, [], ◌∷◌, ℕ, List, Option, Some, None, Err, IsTrue, is_some, length, refl, sym, ap, subst}
+use Rattle.std.proofs.Common.{◌≡◌, ◌∙◌, [], ◌∷◌, ℕ, List, Option, Some, None, Err, IfSome, IsTrue, is_some, length, refl, sym, ap, subst}
 use Rattle.std.specs.List.{AllByRecursion, list_all}
+use Rattle.std.specs.Result.{IsOkAnd}
 use Rattle.std.proofs.lemmas.List.{append-nil}
 use Rattle.st_board.specs.Base.{value_behind}
 use Rattle.st_core.specs.Acts.{reached_by}
+use Rattle.st_core.specs.Driving.{IsRun, behind_flight, ran_at}
 use Rattle.st_core.specs.Server.{Keeps, OpenWithin}
 use Rattle.st_core.proofs.Acting.{acts-none, acts-some}
 use Rattle.st_core.proofs.Ending.{commit-opens, has-event, no-event, stays-open}
 use Rattle.st_core.proofs.Keeping.{keeps-ended, keeps-refused}
 use Rattle.st_core.proofs.Opens.{base-value}
-use Rattle.st_core.proofs.Refusals.{well-same}
+use Rattle.st_core.proofs.Refusals.{never-damaged, well-same}
+use Rattle.st_core.proofs.Running.{run-commit, run-same}
 use Rattle.st_course.specs.declared.job.CommitJob.{CommitJob}
+use Rattle.st_disk.specs.History.{seen}
 use Rattle.st_disk.specs.Moments.{ToldLeavesOnly}
-use Rattle.st_engine.specs.Answers.{Refuses, past_for}
-use Rattle.st_engine.specs.Engine.{IsLeft}
+use Rattle.st_engine.specs.Answers.{IsDone, Refuses, past_for}
+use Rattle.st_engine.specs.Commit.{commit_of}
+use Rattle.st_engine.specs.Engine.{IsLeft, kept_in}
 use Rattle.st_engine.specs.Replay.{ops_on}
 use Rattle.st_fold.specs.Map.{value_at}
 use Rattle.st_ops.specs.Grammar.{Fits, is_change}
@@ -37,6 +42,14 @@ returns-in_default-clause-any_moment g c =
     rw (← c.self.view_is)
     (stays-open g.N.Story.given g.N.Story.opening g.N.Story.store g.D.Disk.history _ c.self.invariant c.trace.ensures.stands
     c.stores_open.ensures.untouched c.stores_open.ensures.written c.operations_change_each_key.ensures c.stored_ranges_are_of_users.ensures c.written_is_stored.ensures)
+
+pub returns-in_default-clause-ran : goal.returns-in_default-clause-ran
+returns-in_default-clause-ran g c =
+    rw (← c.self.view_is)
+    (subst (λ (o : Option CommitJob). IfSome (g.D.Disk.history c.self.inside.engine.disk)
+    (λ h. IsRun g.D.Disk.history h c.self.inside.engine (behind_flight c.self.inside.engine.bounds (ran_at c.self.inside.board c.self.inside.engine h) o)))
+    (sym c.in_default.is ∙ c.take.ensures.value ∙ c.self.invariant.flight)
+    (run-same g.D.Disk.history c.self.inside.engine c.self.inside.engine (ran_at c.self.inside.board c.self.inside.engine) refl (λ h. refl) (λ h. refl)))
 
 pub returns-in_default-clause-well : goal.returns-in_default-clause-well
 returns-in_default-clause-well g c = rw (← c.self.view_is) (well-same g.D.Disk.fault_count _ _ refl)
@@ -85,6 +98,15 @@ returns-in-Ok-clause-any_moment g c =
     (subst (λ ops. ToldLeavesOnly (g.D.Disk.history c.self.inside.engine.disk) (g.D.Disk.history c.commit.new.self.disk) (IsLeft (g.D.Disk.history c.self.inside.engine.disk) c.self.inside.engine.store ops))
     c.as_slice.ensures (c.in-Ok.ensures.any_moment c.in-Ok.ensures.ok.was_unbroken))))
 
+pub returns-in-Ok-clause-ran : goal.returns-in-Ok-clause-ran
+returns-in-Ok-clause-ran g c =
+    rw (← c.self.view_is)
+    (run-commit g.D.Disk.history c.self.inside.board c.self.inside.engine c.commit.new.self c.in-Some.job _
+    (sym c.in-Some.is ∙ c.take.ensures.value ∙ c.self.invariant.flight)
+    (subst (λ ops. IfSome (g.D.Disk.history c.self.inside.engine.disk)
+    (λ h. IsOkAnd (commit_of c.self.inside.engine.bounds (kept_in (seen h) c.self.inside.engine) ops) (IsDone h (g.D.Disk.history c.commit.new.self.disk) c.commit.new.self)))
+    c.as_slice.ensures c.in-Ok.ensures.ok.is))
+
 pub returns-in-Ok-clause-well : goal.returns-in-Ok-clause-well
 returns-in-Ok-clause-well g c =
     rw (← c.self.view_is)
@@ -110,6 +132,7 @@ returns-in-Err-clause-refused g c =
       bounds = c.in-Err.ensures.bounds;
       fault = λ faults is. c.in-Err.ensures.cause.fault faults (ap Err is);
       broken = λ faults is. c.in-Err.ensures.answers.broken faults (ap Err is);
+      whole = never-damaged g.D.Disk.history _ c.self.inside.engine c.commit.new.self c.in-Err.why c.in-Err.ensures.err c.in-Err.ensures.answers;
       full = λ length limit is.
           subst (λ ops. (c.self.inside.engine.broken ≡ None) × (past_for ops c.self.inside.engine ≡ Some (record { length = length; limit = limit }))) c.as_slice.ensures
           (c.in-Err.ensures.answers.full length limit (ap Err is));

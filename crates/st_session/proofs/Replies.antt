@@ -1,0 +1,65 @@
+-- What a board's view tells of the reply.
+use Rattle.std.proofs.Common.{◌≡◌, ◌∙◌, ◌≤◌, ◌<◌, ◌+◌, ◌==◌, ℕ, suc, Bool, true, false, cond, nat_lt, le-leb, List, length, Option, Some, None, refl, sym, ap, subst, arith}
+use Rattle.std.proofs.lemmas.Option.{same_Some}
+use Rattle.std.proofs.lemmas.Bool.{lt-leb}
+use Rattle.st_board.specs.declared.view.View.{View}
+use Rattle.st_board.specs.Views.{IsReadable}
+use Rattle.st_fold.specs.declared.request.Answer.{Answer}
+use Rattle.st_fold.specs.declared.request.Answer.TheVariants.{FutureVersion, TooOld, WrongShard}
+use Rattle.st_fold.specs.declared.request.Ask.{Ask}
+use Rattle.st_fold.specs.Map.{folded}
+use Rattle.st_fold.specs.Reading.{plain, span_of, version_of}
+use Rattle.st_key.specs.Parts.{greatest}
+use Rattle.st_key.specs.Spans.{Span, all_keys, key_less}
+use Rattle.st_model.specs.Reply.{Reply, found, first_unreadable, not_yet, reply, reply_unless, too_old, wrong_shard}
+use Rattle.st_model.specs.Session.{answer_to}
+use Rattle.st_model.specs.State.{State}
+use Rattle.st_mutation.specs.declared.batch.Batch.{Batch}
+use Rattle.st_session.specs.Asking.{Asking, IsOfUsers}
+use Rattle.st_session.specs.Polling.{told}
+use Rattle.st_shards.specs.Unserved.{beyond, first_unserved, or_beyond}
+
+-- of users' keys, the first that isn't served is the first that isn't readable
+unserved-is : (o : Option (List ℕ)) (span : Span) → key_less all_keys.end span.end ≡ false → or_beyond span o ≡ o
+unserved-is (Some key) span users = refl
+unserved-is None span users = ap (λ (t : Bool). cond t (Some (greatest all_keys.end span.begin)) None) users
+
+module _ (log : List Batch) (state : State) (ask : Ask) where
+  abbrev by-tests : Bool → Bool → Option (List ℕ) → Reply
+  by-tests old new key =
+      cond old (too_old state.oldest) (cond new (not_yet state.newest) (reply_unless key (plain (folded log (version_of ask)) ask)))
+
+  pub reply-too_old : version_of ask < state.oldest → reply log state ask ≡ too_old state.oldest
+  reply-too_old old = ap (λ (t : Bool). by-tests t (nat_lt state.newest (version_of ask)) (first_unreadable state.pieces (span_of ask))) (le-leb (suc (version_of ask)) state.oldest (omega arith))
+
+  pub reply-not_yet : state.oldest ≤ version_of ask → state.newest < version_of ask → reply log state ask ≡ not_yet state.newest
+  reply-not_yet old new = λ i. by-tests (lt-leb (suc (version_of ask)) state.oldest (omega arith) i) (le-leb (suc state.newest) (version_of ask) (omega arith) i) (first_unreadable state.pieces (span_of ask))
+
+  pub reply-served : state.oldest ≤ version_of ask → version_of ask ≤ state.newest → (key : Option (List ℕ)) → IsOfUsers ask → first_unserved state.pieces (span_of ask) ≡ key
+      → reply log state ask ≡ reply_unless key (plain (folded log (version_of ask)) ask)
+  reply-served old new key users is = λ i.
+      by-tests (lt-leb (suc (version_of ask)) state.oldest (omega arith) i) (lt-leb (suc state.newest) (version_of ask) (omega arith) i)
+      ((sym (unserved-is (first_unreadable state.pieces (span_of ask)) (span_of ask) users) ∙ is) i)
+
+module _ (log : List Batch) (state : State) (asking : Asking) where
+  abbrev answer : Reply → Option Answer
+  answer given = answer_to asking.patience (length asking.places + 1) given
+
+  pub told-too_old : (oldest : ℕ) → (version_of asking.request.ask < state.oldest) × (oldest ≡ state.oldest) → told log state asking ≡ Some (TooOld oldest)
+  told-too_old oldest is = ap answer (reply-too_old log state asking.request.ask is.0) ∙ ap (λ (o : ℕ). Some (TooOld o)) (sym is.1)
+
+  pub told-wrong : (at : List ℕ) → IsOfUsers asking.request.ask
+      → (state.oldest ≤ version_of asking.request.ask) × (version_of asking.request.ask ≤ state.newest) × (first_unserved state.pieces (span_of asking.request.ask) ≡ Some at)
+      → told log state asking ≡ Some (WrongShard at)
+  told-wrong at users is = ap answer (reply-served log state asking.request.ask is.0 is.1 (Some at) users is.2)
+
+  pub told-waiting : (state.oldest ≤ version_of asking.request.ask) × (state.newest < version_of asking.request.ask)
+      → told log state asking ≡ cond (length asking.places + 1 == asking.patience) (Some (FutureVersion state.newest (length asking.places + 1))) None
+  told-waiting is = ap answer (reply-not_yet log state asking.request.ask is.0 is.1)
+
+  pub told-found : (answered : Answer) → reply log state asking.request.ask ≡ found answered → told log state asking ≡ Some answered
+  told-found answered is = ap answer is
+
+pub replied-found : (log : List Batch) (state : State) (ask : Ask) → IsOfUsers ask → IsReadable state (span_of ask) (version_of ask)
+    → reply log state ask ≡ found (plain (folded log (version_of ask)) ask)
+replied-found log state ask users readable = reply-served log state ask readable.oldest readable.newest None users readable.served

@@ -1,0 +1,9 @@
+pub use Rattle.st_fold.specs.Map
+pub use Rattle.st_fold.specs.Reading
+pub use Rattle.st_model.specs.Reply
+pub use Rattle.st_model.specs.Session
+pub mod Asking
+pub mod Logs
+pub mod Polling
+pub mod Seen
+pub mod Walking

@@ -10,7 +10,7 @@ use Rattle.st_session.specs.Seen.{IsMapOf}
 use Rattle.st_session.specs.Walking.{IsFrom, IsNext, ahead, comes_first, is_ahead, way}
 use Rattle.st_session.proofs.Orders.{ahead-on, first-asym, first-irrefl}
 use Rattle.st_session.proofs.Ways.{In, Rises, all-of, filter-all, filter-none, of-all, on-way, rises-way, way-inside, way-value}
-use Rattle.st_versioned.specs.Neighbours.{IsFirst, IsFirstOrNone}
+use Rattle.st_versioned.specs.Neighbours.{IsFirst, IsFirstOrNone, key_above}
 
 Some≢None : {A : Type 0} (x : A) → Some x ≡ None → ⊥
 Some≢None x is = cc
@@ -148,3 +148,53 @@ all-behind-begin span pairs =
 pub all-before-end : (span : Span) (pairs : Map) → ahead true span.end false span pairs ≡ way true span pairs
 all-before-end span pairs =
     filter-all _ (way true span pairs) (all-of _ (way true span pairs) (λ pair there. within-end span pair.0 (way-inside true span pairs pair there)))
+
+pub start-back : (back : Bool) (at : List ℕ) (span : Span) → back ≡ true → at ≡ span.end → IsFrom back at false span
+start-back back at span is place = subst (λ (b : Bool). IsFrom b at false span) (sym is) (subst (λ (k : List ℕ). IsFrom true k false span) (sym place) (from-end span))
+
+pub start-on : (back : Bool) (at : List ℕ) (span : Span) → back ≡ false → at ≡ span.begin → IsFrom back at true span
+start-on back at span is place = subst (λ (b : Bool). IsFrom b at true span) (sym is) (subst (λ (k : List ℕ). IsFrom false k true span) (sym place) (from-begin span))
+
+pub whole-back : (back : Bool) (at : List ℕ) (span : Span) → back ≡ true → at ≡ span.end → (pairs : Map) → ahead back at false span pairs ≡ way back span pairs
+whole-back back at span is place pairs =
+    subst (λ (b : Bool). ahead b at false span pairs ≡ way b span pairs) (sym is)
+    (subst (λ (k : List ℕ). ahead true k false span pairs ≡ way true span pairs) (sym place) (all-before-end span pairs))
+
+pub whole-on : (back : Bool) (at : List ℕ) (span : Span) → back ≡ false → at ≡ span.begin → (pairs : Map) → ahead back at true span pairs ≡ way back span pairs
+whole-on back at span is place pairs =
+    subst (λ (b : Bool). ahead b at true span pairs ≡ way b span pairs) (sym is)
+    (subst (λ (k : List ℕ). ahead false k true span pairs ≡ way false span pairs) (sym place) (all-behind-begin span pairs))
+
+-- from a key inside the other end
+pub start-below : (back : Bool) (key : List ℕ) (or_equal : Bool) (span : Span) → back ≡ true → key_less key span.end ≡ true → IsFrom back key or_equal span
+start-below back key or_equal span is below = subst (λ (b : Bool). IsFrom b key or_equal span) (sym is) (by_equal or_equal)
+  where
+    by_equal : (e : Bool) → IsFrom true key e span
+    by_equal false = less_asym key span.end below
+    by_equal true = below
+
+-- ---- the greatest key at another or below it
+
+pub to-itself : (value : List ℕ → Option (List ℕ)) (key found : List ℕ) → value key ≡ Some found → IsFirst key_above (λ other. not (key_less key other)) value (key, found)
+to-itself value key found there = record {
+  passing = ap not (less_irrefl key);
+  there = there;
+  before = λ other passes before. absurd (false≢true (sym (not-of (key_less key other) passes) ∙ before));
+}
+
+pub to-below : (value : List ℕ → Option (List ℕ)) (key : List ℕ) → value key ≡ None → (found : Option (List ℕ × List ℕ))
+    → IsFirstOrNone key_above (λ other. key_less other key) value found → IsFirstOrNone key_above (λ other. not (key_less key other)) value found
+to-below value key none None first = λ other passes. by_test other passes (key_less other key) refl
+  where
+    by_test : (other : List ℕ) → not (key_less key other) ≡ true → (t : Bool) → key_less other key ≡ t → value other ≡ None
+    by_test other passes true below = first other below
+    by_test other passes false up = ap value (less_connected other key up (not-of (key_less key other) passes)) ∙ none
+to-below value key none (Some found) first = record {
+  passing = ap not (less_asym found.0 key first.passing);
+  there = first.there;
+  before = λ other passes before. by_test other passes before (key_less other key) refl;
+}
+  where
+    by_test : (other : List ℕ) → not (key_less key other) ≡ true → key_above other found.0 ≡ true → (t : Bool) → key_less other key ≡ t → value other ≡ None
+    by_test other passes before true below = first.before other below before
+    by_test other passes before false up = ap value (less_connected other key up (not-of (key_less key other) passes)) ∙ none

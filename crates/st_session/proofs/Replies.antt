@@ -1,7 +1,7 @@
 -- What a board's view tells of the reply.
 use Rattle.std.proofs.Common.{◌≡◌, ◌∙◌, ◌≤◌, ◌<◌, ◌+◌, ◌==◌, ℕ, suc, Bool, true, false, cond, nat_lt, le-leb, List, length, Option, Some, None, refl, sym, ap, subst, arith}
 use Rattle.std.proofs.lemmas.Option.{same_Some}
-use Rattle.std.proofs.lemmas.Bool.{lt-leb}
+use Rattle.std.proofs.lemmas.Bool.{eqb-true, lt-leb}
 use Rattle.st_board.specs.declared.view.View.{View}
 use Rattle.st_board.specs.Views.{IsReadable}
 use Rattle.st_fold.specs.declared.request.Answer.{Answer}
@@ -16,7 +16,12 @@ use Rattle.st_model.specs.Session.{answer_to}
 use Rattle.st_model.specs.State.{State}
 use Rattle.st_mutation.specs.declared.batch.Batch.{Batch}
 use Rattle.st_session.specs.Asking.{Asking, IsOfUsers}
-use Rattle.st_session.specs.Polling.{told}
+use Rattle.st_session.specs.Polling.{HasShortPairs, IsFinished, IsLooked, IsPolled, IsSearched, told}
+use Rattle.st_session.specs.Seen.{IsFoundIn}
+use Rattle.st_session.specs.declared.poll.Looked.{Looked}
+use Rattle.st_session.specs.declared.poll.Looked.TheVariants as looked
+use Rattle.st_session.specs.declared.poll.Poll.{Poll}
+use Rattle.st_session.specs.declared.poll.Poll.TheVariants as poll
 use Rattle.st_shards.specs.Unserved.{beyond, first_unserved, or_beyond}
 
 -- of users' keys, the first that isn't served is the first that isn't readable
@@ -63,3 +68,43 @@ module _ (log : List Batch) (state : State) (asking : Asking) where
 pub replied-found : (log : List Batch) (state : State) (ask : Ask) → IsOfUsers ask → IsReadable state (span_of ask) (version_of ask)
     → reply log state ask ≡ found (plain (folded log (version_of ask)) ask)
 replied-found log state ask users readable = reply-served log state ask readable.oldest readable.newest None users readable.served
+
+-- ---- looks and polls
+
+same-number : (a b : ℕ) → (a == b) ≡ true → a ≡ b
+same-number a b is = eqb-true a b is
+
+-- where the version hasn't come, a look waits, or gives it up at the last poll
+pub waited : (log : List Batch) (state : State) (asking : Asking) (newest : ℕ)
+    → (state.oldest ≤ version_of asking.request.ask) × (state.newest < version_of asking.request.ask) × (newest ≡ state.newest)
+    → IsLooked log state asking (cond (length asking.places + 1 == asking.patience) (looked.Done (FutureVersion newest asking.patience)) (looked.Pending newest))
+waited log state asking newest is = by_test (length asking.places + 1 == asking.patience) refl
+  where
+    told-is : told log state asking ≡ cond (length asking.places + 1 == asking.patience) (Some (FutureVersion state.newest (length asking.places + 1))) None
+    told-is = told-waiting log state asking (is.0, is.1)
+
+    by_test : (t : Bool) → (length asking.places + 1 == asking.patience) ≡ t → IsLooked log state asking (cond t (looked.Done (FutureVersion newest asking.patience)) (looked.Pending newest))
+    by_test true last =
+        told-is ∙ ap (λ (t : Bool). cond t (Some (FutureVersion state.newest (length asking.places + 1))) None) last
+        ∙ (λ i. Some (FutureVersion (sym is.2 i) (same-number (length asking.places + 1) asking.patience last i)))
+    by_test false more =
+        (told-is ∙ ap (λ (t : Bool). cond t (Some (FutureVersion state.newest (length asking.places + 1))) None) more, is.2)
+
+-- a search that found the answer in the view found that of the poll
+pub searched : (log : List Batch) (state : State) (asking : Asking) (view : View) (answered : Answer) → IsSearched log state asking.request.ask view
+    → IsFoundIn view asking.request.ask answered → told log state asking ≡ Some answered
+searched log state asking view answered searched found-in =
+    told-found log state asking _ searched.replied ∙ ap (λ (a : Answer). Some a) (sym (found-in (folded log (version_of asking.request.ask)) searched.values))
+
+-- a look and the rest of its poll are a poll
+pub finished : (log : List Batch) (state : State) (asking : Asking) (look : Looked) (result : Poll) → IsLooked log state asking look
+    → IsFinished asking.request.ask look result → IsPolled log state asking result
+finished log state asking (looked.Pending newest) result looks is = subst (IsPolled log state asking) (sym is) looks
+finished log state asking (looked.Done given) result looks is = subst (IsPolled log state asking) (sym is) looks
+finished log state asking (looked.Search view) (poll.Pending newest) looks is = absurd is
+finished log state asking (looked.Search view) (poll.Done given) looks is = searched log state asking view given looks is
+
+pub short-pairs : (log : List Batch) (state : State) (asking : Asking) (look : Looked) → IsLooked log state asking look → HasShortPairs asking.request.ask look
+short-pairs log state asking (looked.Pending newest) looks = tt
+short-pairs log state asking (looked.Done given) looks = tt
+short-pairs log state asking (looked.Search view) looks = looks.short

@@ -14,7 +14,8 @@ use Rattle.st_fold.specs.Reading.{count_below, in_order, is_below, key_at, moved
 use Rattle.st_key.specs.KeyOrder.{le_less_trans, less_asym, less_irrefl, less_le_trans, less_trans}
 use Rattle.st_key.specs.Spans.{Span, key_less, within}
 use Rattle.st_session.specs.Seen.{IsMapOf}
-use Rattle.st_session.specs.Walking.{ahead, comes_first, goes_back, is_ahead, is_sought, key_found, passed_over, way}
+use Rattle.st_session.specs.Walking.{IsFrom, IsNext, ahead, comes_first, goes_back, is_ahead, is_sought, key_found, passed_over, way}
+use Rattle.st_session.proofs.Next.{from-inside, within-begin, within-end}
 use Rattle.st_session.proofs.Ways.{In, Rises, all-of, filter-all, filter-none, of-all, rises-way, way-inside}
 
 -- ---- places in lists
@@ -169,3 +170,74 @@ module _ (value : List ℕ → Option (List ℕ)) (key : List ℕ) (or_equal : B
       less : suc n - 1 ≡ n
       less = omega arith
   selected (negsuc n) = back (n + 1) (count_below key or_equal (pairs_in span pairs) - suc n) (omega arith)
+
+-- what is found on the way is where the selector leads
+pub selects : (value : List ℕ → Option (List ℕ)) (key : List ℕ) (or_equal : Bool) (span : Span) (offset : ℤ) (back : Bool) (passed : ℕ) (at : List ℕ) (at_it : Bool)
+    → back ≡ goes_back offset → passed ≡ passed_over offset
+    → ((other : List ℕ) → within span other ≡ true → is_ahead back at at_it other ≡ is_sought back key or_equal other)
+    → (pairs : Map) → IsMapOf value span pairs → (next : Option (List ℕ × List ℕ)) → next ≡ slice_get (ahead back at at_it span pairs) passed
+    → key_found back next ≡ key_at (moved (count_below key or_equal (pairs_in span pairs)) offset) (pairs_in span pairs)
+selects value key or_equal span offset back passed at at_it turns passes alike pairs map next is =
+    ap (key_found back) (is ∙ ap (λ (t : Map). slice_get t passed) (ahead-sought back key or_equal at at_it span pairs alike))
+    ∙ (λ i. key_found (turns i) (slice_get (filter (λ pair. is_sought (turns i) key or_equal pair.0) (way (turns i) span pairs)) (passes i)))
+    ∙ selected value key or_equal span pairs map offset
+
+-- ---- the start of the way
+
+pub sought-back : (back : Bool) (key : List ℕ) (or_equal : Bool) (at : List ℕ) (span : Span) → back ≡ true → key_less key span.end ≡ false → at ≡ span.end
+    → (other : List ℕ) → within span other ≡ true → comes_first back at other ≡ is_sought back key or_equal other
+sought-back back key or_equal at span is above place other inside =
+    subst (λ (b : Bool). comes_first b at other ≡ is_sought b key or_equal other) (sym is)
+    (ap (key_less other) place ∙ within-end span other inside ∙ sym (below or_equal))
+  where
+    lower : key_less other key ≡ true
+    lower = less_le_trans other span.end key (within-end span other inside) above
+
+    below : (e : Bool) → is_below key e other ≡ true
+    below false = lower
+    below true = ap not (less_asym other key lower)
+
+pub sought-on : (back : Bool) (key : List ℕ) (or_equal : Bool) (at : List ℕ) (span : Span) → back ≡ false → key_less key span.begin ≡ true → at ≡ span.begin
+    → (other : List ℕ) → within span other ≡ true → not (comes_first back other at) ≡ is_sought back key or_equal other
+sought-on back key or_equal at span is below place other inside =
+    subst (λ (b : Bool). not (comes_first b other at) ≡ is_sought b key or_equal other) (sym is)
+    (ap (λ (k : List ℕ). not (key_less other k)) place ∙ ap not (within-begin span other inside) ∙ sym (ap not (above or_equal)))
+  where
+    higher : key_less key other ≡ true
+    higher = less_le_trans key span.begin other below (within-begin span other inside)
+
+    above : (e : Bool) → is_below key e other ≡ false
+    above false = less_asym key other higher
+    above true = ap not higher
+
+-- ---- the way to the key
+
+-- so many pairs are left to pass over, from this key on
+pub record Passes (value : List ℕ → Option (List ℕ)) (back : Bool) (span : Span) (key : List ℕ) (or_equal : Bool) (passed : ℕ) (at : List ℕ) (at_it : Bool) (left : ℕ) : Type 0 where
+  pub from : IsFrom back at at_it span
+  pub same : (pairs : Map) → IsMapOf value span pairs → slice_get (ahead back at at_it span pairs) left ≡ slice_get (ahead back key or_equal span pairs) passed
+
+module _ (value : List ℕ → Option (List ℕ)) (back : Bool) (span : Span) (key : List ℕ) (or_equal : Bool) (passed : ℕ) where
+  pub passes-none : IsFrom back key or_equal span → Passes value back span key or_equal passed key or_equal passed
+  passes-none from = record { from = from; same = λ pairs map. refl }
+
+  module _ (at : List ℕ) (at_it : Bool) (left : ℕ) (passes : Passes value back span key or_equal passed at at_it left) where
+    pub passes-one : (pair : List ℕ × List ℕ) → ((pairs : Map) → IsMapOf value span pairs → IsNext back at at_it span pairs (Some pair)) → within span pair.0 ≡ true
+        → 0 < left → Passes value back span key or_equal passed pair.0 false (left - 1)
+    passes-one pair next inside some = record {
+      from = from-inside back span pair.0 inside;
+      same = λ pairs map.
+          sym (slice-tail pair (ahead back pair.0 false span pairs) left some) ∙ ap (λ (t : Map). slice_get t left) (sym (next pairs map)) ∙ passes.same pairs map;
+    }
+
+    pub passes-end : ((pairs : Map) → IsMapOf value span pairs → IsNext back at at_it span pairs None)
+        → (pairs : Map) → IsMapOf value span pairs → None ≡ slice_get (ahead back key or_equal span pairs) passed
+    passes-end next pairs map = sym (ap (λ (t : Map). slice_get t left) (next pairs map)) ∙ passes.same pairs map
+
+    pub passes-all : (found : Option (List ℕ × List ℕ)) → ((pairs : Map) → IsMapOf value span pairs → IsNext back at at_it span pairs found) → left ≡ 0
+        → (pairs : Map) → IsMapOf value span pairs → found ≡ slice_get (ahead back key or_equal span pairs) passed
+    passes-all found next none pairs map = by_found found (next pairs map) ∙ ap (λ (n : ℕ). slice_get (ahead back at at_it span pairs) n) (sym none) ∙ passes.same pairs map
+      where
+        by_found : (o : Option (List ℕ × List ℕ)) → IsNext back at at_it span pairs o → o ≡ slice_get (ahead back at at_it span pairs) 0
+        by_found None is = sym (ap (λ (t : Map). slice_get t 0) is)
+        by_found (Some pair) is = sym (ap (λ (t : Map). slice_get t 0) is)

@@ -4,6 +4,7 @@ ghost use Rattle.st_fold.specs.Map.{Map};
 ghost use Rattle.st_fold.specs.Reading.{in_order, pairs_in, rows_of};
 ghost use Rattle.st_ptree.specs.Entries.{pairs_of};
 ghost use Rattle.st_session.specs.Seen.{AreShortIn, IsMapOf};
+ghost use Rattle.st_session.specs.Walking.{IsFrom, ahead, way};
 ghost use Rattle.st_versioned.specs.Root.{over};
 
 use crate::walk::{next_in, short_key, short_value};
@@ -14,6 +15,18 @@ use st_ptree::Steps;
 use st_versioned::Overlay;
 use std::alloc::{AllocError, Global};
 use std::sync::ledger::Ledger;
+
+// Where the way along a range begins, and whether at it.
+fn start(range: &Range, reverse: bool) -> (&[u8], bool)
+    ensures from { IsFrom reverse result.0.now result.1 range.now }
+    ensures whole { (pairs : Map) → ahead reverse result.0.now result.1 range.now pairs ≡ way reverse range.now pairs }
+{
+    if reverse {
+        (range.end().bytes(), false)
+    } else {
+        (range.begin().bytes(), true)
+    }
+}
 
 /// The rows of a range, and whether there are more. It takes a search for each row, and one more.
 pub(crate) fn rows<L: Ledger>(
@@ -32,12 +45,7 @@ pub(crate) fn rows<L: Ledger>(
     let mut taken = Vec::new(alloc);
     let mut rows_left = rows;
     let mut bytes_left = bytes as usize;
-    let mut at = if reverse {
-        range.end().bytes()
-    } else {
-        range.begin().bytes()
-    };
-    let mut or_equal = !reverse;
+    let (mut at, mut or_equal) = start(range, reverse);
     while let Some((key, value)) = next_in(overlay, range, reverse, at, or_equal, steps) {
         if rows_left == 0 || bytes_left == 0 {
             return Ok(Answer::Rows {

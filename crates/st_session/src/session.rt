@@ -1,9 +1,11 @@
 //! A request and the places of its polls.
-ghost use Rattle.std.specs.Prelude.{◌≡◌, ◌≤◌, ◌++◌, ◌∷◌, [], false, OnOk, OnErr, IfOk};
+ghost use Rattle.std.specs.Prelude.{◌≡◌, ◌==◌, ◌+◌, ◌≤◌, ◌++◌, ◌∷◌, [], false, length, if◌then◌else◌, OnOk, OnErr, IfOk};
+ghost use Rattle.st_fold.specs.declared.request.Answer.TheVariants as tells;
 ghost use Rattle.st_fold.specs.Reading.{is_watch, span_of, version_of};
 ghost use Rattle.st_session.specs.Asking.{HasShortKey, IsOfUsers};
 ghost use Rattle.st_session.specs.Logs.{AreShort};
 ghost use Rattle.st_session.specs.Polling.{HasShortPairs, IsFinished, IsLooked, IsPolled};
+ghost use Rattle.st_session.specs.declared.poll.Looked.TheVariants as looked;
 
 use crate::search::search;
 use crate::{Looked, Poll};
@@ -119,8 +121,19 @@ impl Session {
         }
     }
 
+    // Keeps the place of a poll.
+    fn add(&mut self, place: u64) -> Result<(), AllocError>
+        ensures ok { OnOk result (self.new ≡ record self.old { places = self.old.places ++ place ∷ [] }) }
+        ensures err { OnErr result (self.new ≡ self.old) }
+    {
+        self.places.push(place)?;
+        Ok(())
+    }
+
     // What one more poll gives where the version hasn't come.
     fn waited(&self, newest: u64) -> Looked
+        ensures { result ≡ (if length self.now.places + 1 == self.now.patience
+            then looked.Done (tells.FutureVersion newest self.now.patience) else looked.Pending newest) }
     {
         if self.places.len() + 1 == self.patience as usize {
             Looked::Done(Answer::FutureVersion {
@@ -158,7 +171,7 @@ impl Session {
         ensures board { board.new ≡ board.old }
     {
         let looked = self.looked(board)?;
-        self.places.push(board.place())?;
+        self.add(board.place())?;
         Ok(looked)
     }
 
@@ -184,7 +197,7 @@ impl Session {
     {
         let looked = self.looked(board)?;
         let poll = self.finish(looked)?;
-        self.places.push(board.place())?;
+        self.add(board.place())?;
         Ok(poll)
     }
 }

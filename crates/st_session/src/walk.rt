@@ -1,5 +1,5 @@
 //! Steps along the pairs of a view.
-ghost use Rattle.std.specs.Prelude.{◌≡◌, ◌≤◌, ◌×◌, Some, true, not, length, IfSome, IfOk};
+ghost use Rattle.std.specs.Prelude.{◌≡◌, ◌≤◌, Some, true, not, length, IfSome, IfOk};
 ghost use Rattle.std.specs.Option.{option_map};
 ghost use Rattle.st_fold.specs.Map.{Map};
 ghost use Rattle.st_key.specs.Spans.{key_less, within};

@@ -17,7 +17,7 @@ use Rattle.st_session.specs.Logs.{AreShort, IsShort}
 use Rattle.st_session.specs.Seen.{AreShortIn, IsMapOf}
 
 -- atomic operations keep values short
-abbrev Stays : Type 0
+abbrev pub Stays : Type 0
 Stays = (op : AtomicOp) (old : Option (List ℕ)) (operand : List ℕ)
     → ForSome old (λ bytes. length bytes ≤ 100000) → length operand ≤ 100000
     → ForSome (changed op old operand) (λ bytes. length bytes ≤ 100000)

@@ -4,7 +4,8 @@ use Rattle.std.proofs.lemmas.Bool.{false≢true}
 use Rattle.std.specs.List.{AllByRecursion}
 use Rattle.std.specs.Option.{option_map}
 use Rattle.st_fold.specs.Map.{Map}
-use Rattle.st_key.specs.KeyOrder.{le_less_trans, less_asym, less_connected, less_irrefl, less_le_trans, less_trans}
+use Rattle.st_fold.specs.Reading.{span_of_key}
+use Rattle.st_key.specs.KeyOrder.{le_less_trans, less_after, less_asym, less_connected, less_irrefl, less_le_trans, less_trans}
 use Rattle.st_key.specs.Spans.{Span, key_less, within}
 use Rattle.st_session.specs.Seen.{IsMapOf}
 use Rattle.st_session.specs.Walking.{IsFrom, IsNext, ahead, comes_first, is_ahead, way}
@@ -198,3 +199,8 @@ to-below value key none (Some found) first = record {
     by_test : (other : List ℕ) → not (key_less key other) ≡ true → key_above other found.0 ≡ true → (t : Bool) → key_less other key ≡ t → value other ≡ None
     by_test other passes before true below = first.before other below before
     by_test other passes before false up = ap value (less_connected other key up (not-of (key_less key other) passes)) ∙ none
+
+-- ---- one key
+
+pub key-inside : (key : List ℕ) → within (span_of_key key) key ≡ true
+key-inside key = λ i. not (less_irrefl key i) && less_after key i

@@ -1,27 +1,33 @@
 -- What a board's view tells of the reply.
-use Rattle.std.proofs.Common.{◌≡◌, ◌∙◌, ◌≤◌, ◌<◌, ◌+◌, ◌==◌, ℕ, suc, Bool, true, false, cond, nat_lt, le-leb, List, length, Option, Some, None, refl, sym, ap, subst, arith}
-use Rattle.std.proofs.lemmas.Option.{same_Some}
+use Rattle.std.proofs.Common.{◌≡◌, ◌∙◌, ◌≤◌, ◌<◌, ◌+◌, ◌==◌, ℕ, suc, Bool, true, false, cond, nat_lt, le-leb, List, fold, length, IsTrue, Option, Some, None, refl, sym, ap, subst, arith}
+use Rattle.std.specs.Cmp.Lexicographic.{slice_cmp}
+use Rattle.std.specs.FinMap.Entries.{is_sorted}
+use Rattle.std.specs.Ordering.{nat_cmp}
 use Rattle.std.proofs.lemmas.Bool.{eqb-true, lt-leb}
 use Rattle.st_board.specs.declared.view.View.{View}
 use Rattle.st_board.specs.Views.{IsReadable}
 use Rattle.st_fold.specs.declared.request.Answer.{Answer}
 use Rattle.st_fold.specs.declared.request.Answer.TheVariants.{FutureVersion, TooOld, WrongShard}
 use Rattle.st_fold.specs.declared.request.Ask.{Ask}
-use Rattle.st_fold.specs.Map.{folded}
+use Rattle.st_course.specs.Sent.{value_of}
+use Rattle.st_fold.specs.Map.{batches_to, folded, value_at}
 use Rattle.st_fold.specs.Reading.{plain, span_of, version_of}
 use Rattle.st_key.specs.Parts.{greatest}
-use Rattle.st_key.specs.Spans.{Span, all_keys, key_less}
+use Rattle.st_key.specs.Spans.{Span, all_keys, key_less, within}
 use Rattle.st_model.specs.Reply.{Reply, found, first_unreadable, not_yet, reply, reply_unless, too_old, wrong_shard}
 use Rattle.st_model.specs.Session.{answer_to}
 use Rattle.st_model.specs.State.{State}
+use Rattle.st_mutation.specs.Effect.{value_by_batch}
 use Rattle.st_mutation.specs.declared.batch.Batch.{Batch}
 use Rattle.st_session.specs.Asking.{Asking, IsOfUsers}
 use Rattle.st_session.specs.Polling.{HasShortPairs, IsFinished, IsLooked, IsPolled, IsSearched, told}
-use Rattle.st_session.specs.Seen.{IsFoundIn}
+use Rattle.st_session.specs.Logs.{AreShort}
+use Rattle.st_session.specs.Seen.{IsFoundIn, IsMapOf, value_in}
 use Rattle.st_session.specs.declared.poll.Looked.{Looked}
 use Rattle.st_session.specs.declared.poll.Looked.TheVariants as looked
 use Rattle.st_session.specs.declared.poll.Poll.{Poll}
 use Rattle.st_session.specs.declared.poll.Poll.TheVariants as poll
+use Rattle.st_session.proofs.Lengths.{Stays, short-in}
 use Rattle.st_shards.specs.Unserved.{beyond, first_unserved, or_beyond}
 
 -- of users' keys, the first that isn't served is the first that isn't readable
@@ -93,8 +99,8 @@ waited log state asking newest is = by_test (length asking.places + 1 == asking.
 -- a search that found the answer in the view found that of the poll
 pub searched : (log : List Batch) (state : State) (asking : Asking) (view : View) (answered : Answer) → IsSearched log state asking.request.ask view
     → IsFoundIn view asking.request.ask answered → told log state asking ≡ Some answered
-searched log state asking view answered searched found-in =
-    told-found log state asking _ searched.replied ∙ ap (λ (a : Answer). Some a) (sym (found-in (folded log (version_of asking.request.ask)) searched.values))
+searched log state asking view answered looks found-in =
+    told-found log state asking _ looks.replied ∙ ap (λ (a : Answer). Some a) (sym (found-in (folded log (version_of asking.request.ask)) looks.values))
 
 -- a look and the rest of its poll are a poll
 pub finished : (log : List Batch) (state : State) (asking : Asking) (look : Looked) (result : Poll) → IsLooked log state asking look
@@ -108,3 +114,17 @@ pub short-pairs : (log : List Batch) (state : State) (asking : Asking) (look : L
 short-pairs log state asking (looked.Pending newest) looks = tt
 short-pairs log state asking (looked.Done given) looks = tt
 short-pairs log state asking (looked.Search view) looks = looks.short
+
+-- a view that a board gives is one to search
+pub searchable : Stays → ((log : List Batch) (version : ℕ) (key : List ℕ) → value_at (folded log version) key ≡ fold (value_by_batch key) None (batches_to version log))
+    → ((log : List Batch) (version : ℕ) → IsTrue (is_sorted (slice_cmp nat_cmp) (folded log version)))
+    → (log : List Batch) → AreShort log → (state : State) (ask : Ask) → IsOfUsers ask → (view : View) → IsReadable state (span_of ask) (version_of ask)
+    → ((key : List ℕ) → within (span_of ask) key ≡ true → value_in view key ≡ value_of log (version_of ask) key) → IsSearched log state ask view
+searchable stays alone ordered log short state ask users view readable values = record {
+  replied = replied-found log state ask users readable;
+  values = map;
+  short = short-in stays alone log short (version_of ask) (value_in view) (span_of ask) map;
+}
+  where
+    map : IsMapOf (value_in view) (span_of ask) (folded log (version_of ask))
+    map = record { sorted = ordered log (version_of ask); values = values }

@@ -5,5 +5,6 @@ pub use Rattle.st_model.specs.Session
 pub mod Asking
 pub mod Logs
 pub mod Polling
+pub mod Rows
 pub mod Seen
 pub mod Walking

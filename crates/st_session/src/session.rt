@@ -9,8 +9,9 @@ ghost use Rattle.st_session.specs.declared.poll.Looked.TheVariants as looked;
 
 use crate::search::search;
 use crate::{Looked, Poll};
+use st_atomic::values_stay_short;
 use st_board::{Board, Story, ViewRefusal};
-use st_fold::{Answer, Answered, Ask, Request};
+use st_fold::{Answer, Answered, Ask, Request, folds_are_in_order, keys_change_by_themselves};
 use st_key::{Range, key_after};
 use st_list::Items;
 use std::alloc::{AllocError, Global};
@@ -150,6 +151,9 @@ impl Session {
         requires { AreShort N.given.log }
         ensures { IfOk result (IsLooked N.given.log board.now.state self.now) }
     {
+        values_stay_short();
+        keys_change_by_themselves();
+        folds_are_in_order();
         match board.view(&self.range, version_of(&self.request.ask)) {
             Ok(view) => Ok(Looked::Search(view)),
             Err(ViewRefusal::TooOld { oldest }) => Ok(Looked::Done(Answer::TooOld { oldest })),

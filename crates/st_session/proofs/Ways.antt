@@ -136,9 +136,10 @@ below-each key (pair ∷ pairs) below = (first-of (key_less key pair.0) _ below,
 
 pub rises-sorted : (pairs : Map) → IsTrue (is_sorted (slice_cmp nat_cmp) pairs) → Rises false pairs
 rises-sorted [] sorted = tt
-rises-sorted (pair ∷ pairs) sorted =
-    (below-each pair.0 pairs (first-of (below_all (slice_cmp nat_cmp) pair.0 pairs) _ sorted),
-    rises-sorted pairs (second-of (below_all (slice_cmp nat_cmp) pair.0 pairs) _ sorted))
+rises-sorted (pair ∷ pairs) sorted = (
+  below-each pair.0 pairs (first-of (below_all (slice_cmp nat_cmp) pair.0 pairs) _ sorted),
+  rises-sorted pairs (second-of (below_all (slice_cmp nat_cmp) pair.0 pairs) _ sorted),
+)
 
 rises-filter : (p : List ℕ × List ℕ → Bool) (back : Bool) (pairs : Map) → Rises back pairs → Rises back (filter p pairs)
 rises-filter p back [] rises = tt

@@ -42,7 +42,6 @@ fn users(alloc: Global) -> Result<Ranges, Fail>
     Ok(Ranges::of(alloc, range)?)
 }
 
-
 // A batch of version 1 that sets a, b and c, and one of version 2 that clears b and sets d.
 fn batches(alloc: Global) -> Result<(Batch, Batch), Fail>
     ensures { IfOk result (λ batches. IsRow batches.0 batches.1) }
@@ -77,9 +76,24 @@ fn base_of<L: Ledger>(alloc: Global, blank: Blank) -> Result<PTree<Bytes>, Fail>
 {
     let mut steps = Steps::<L>::new(blank);
     let mut base = PTree::new(alloc);
-    base.insert(Bytes::from_static(b"a"), 2, Bytes::from_static(b"1"), &mut steps)?;
-    base.insert(Bytes::from_static(b"b"), 1, Bytes::from_static(b"2"), &mut steps)?;
-    base.insert(Bytes::from_static(b"c"), 3, Bytes::from_static(b"3"), &mut steps)?;
+    base.insert(
+        Bytes::from_static(b"a"),
+        2,
+        Bytes::from_static(b"1"),
+        &mut steps,
+    )?;
+    base.insert(
+        Bytes::from_static(b"b"),
+        1,
+        Bytes::from_static(b"2"),
+        &mut steps,
+    )?;
+    base.insert(
+        Bytes::from_static(b"c"),
+        3,
+        Bytes::from_static(b"3"),
+        &mut steps,
+    )?;
     Ok(base)
 }
 
@@ -147,7 +161,10 @@ fn shown(alloc: Global, answer: &Answer) -> Result<Vec<u8>, Fail> {
         Answer::KeyIs(Found::After) => bytes.extend_from_slice(b"after")?,
         Answer::Absent => bytes.extend_from_slice(b"none")?,
         Answer::TooOld { oldest: 1 } => bytes.extend_from_slice(b"too old")?,
-        Answer::FutureVersion { newest: 2, polls: 2 } => bytes.extend_from_slice(b"future")?,
+        Answer::FutureVersion {
+            newest: 2,
+            polls: 2,
+        } => bytes.extend_from_slice(b"future")?,
         _ => bytes.extend_from_slice(b"other")?,
     }
     Ok(bytes)
@@ -185,7 +202,13 @@ fn check_gets<N: Story>(rt: &impl Abort, alloc: Global, board: &mut Board<N>) ->
         (b"a", 3, b"pending"),
     ];
     for (key, version, want) in cases {
-        polled(rt, alloc, board, Ask::Get(Key::read(alloc, key)?, version), want)?;
+        polled(
+            rt,
+            alloc,
+            board,
+            Ask::Get(Key::read(alloc, key)?, version),
+            want,
+        )?;
     }
     Ok(())
 }
@@ -248,7 +271,11 @@ fn check_selectors<N: Story>(
 }
 
 // A version that doesn't come is waited for until the second poll.
-fn check_patience<N: Story>(rt: &impl Abort, alloc: Global, board: &mut Board<N>) -> Result<(), Fail>
+fn check_patience<N: Story>(
+    rt: &impl Abort,
+    alloc: Global,
+    board: &mut Board<N>,
+) -> Result<(), Fail>
     requires { AreShort N.given.log }
 {
     let mut session = session(alloc, Ask::Get(Key::read(alloc, b"a")?, 3))?;

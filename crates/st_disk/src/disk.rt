@@ -80,6 +80,9 @@ pub trait Disk {
     fn faults(&self) -> u64
         ensures { result ≡ fault_count self.now };
 
+    /// No more calls of `write_at` and `sync` were carried out than the disk lets through.
+    ghost passes_within: { (disk : Self) (h : History) → history disk ≡ Some h → ForSome h.passes (λ n. h.made ≤ n) };
+
     /// What the disk reads as is one of its images.
     ghost reads_as_image: { (disk : Self) (h : History) → history disk ≡ Some h → MayLeave h (seen h) };
 }

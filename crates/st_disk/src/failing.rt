@@ -72,6 +72,8 @@ impl<D: Disk> Disk for Failing<D> {
 
     ghost fault_count = { λ f. failing_faults D.fault_count f };
 
+    ghost passes_within = { λ f h is. D.passes_within f.inner h is };
+
     ghost reads_as_image = { λ f h is. D.reads_as_image f.inner h is };
 
     fn len(&mut self, file: u8) -> Result<u64, Failed>

@@ -1,5 +1,6 @@
 // A disk over another one, which stops after some calls.
-ghost use Rattle.std.specs.Prelude.{◌≡◌, true, false};
+ghost use Rattle.std.specs.Prelude.{◌≡◌, ◌≤◌, true, false};
+ghost use Rattle.std.specs.Option.{ForSome};
 ghost use Rattle.st_disk.specs.Spent.{is_spent};
 
 use crate::{Disk, DiskRefusal, Failed};
@@ -15,12 +16,12 @@ pub struct Fused<D> {
     faults: u64,
     ghost spent: { is_blown ≡ true → is_spent passes passed ≡ true },
     ghost whole: { is_blown ≡ false → faults ≡ 0 },
+    ghost within: { ForSome passes (λ n. passed ≤ n) },
 }
 
 impl<D: Disk> Fused<D> {
     ghost use Rattle.std.specs.Prelude.{◌≡◌, false, Some, IsTrue};
     ghost use Rattle.std.specs.Bool.{OnFalse};
-    ghost use Rattle.std.specs.Option.{ForSome};
     ghost use Rattle.st_disk.specs.Fuse.{fuse_of, inner_of, stops, blown, fused_history};
 
     /// With `passes` None the fuse never blows.
@@ -93,11 +94,13 @@ impl<D: Disk> Disk for Fused<D> {
     ghost use Rattle.st_disk.specs.History.{of_file, seen, after_write, after_sync, counted, IsPartlyWritten};
     ghost use Rattle.st_disk.specs.Cause.{HasCause};
     ghost use Rattle.st_disk.specs.Fuse.{fuse_of, inner_of, stops, after_change, after_look, fused_faults, fused_history};
-    ghost use Rattle.st_disk.specs.FusedImages.{counted_image};
+    ghost use Rattle.st_disk.specs.FusedImages.{counted_image, counted_within};
 
     ghost history = { λ f. fused_history D.history f };
 
     ghost fault_count = { λ f. fused_faults D.fault_count f };
+
+    ghost passes_within = { λ f h is. counted_within f.passed f.passes (D.history f.inner) f.within h is };
 
     ghost reads_as_image = { λ f h is. counted_image f.passed f.passes (D.history f.inner) (D.reads_as_image f.inner) h is };
 

@@ -183,11 +183,13 @@ fn write(
 impl Disk for Memory {
     ghost use Rattle.std.specs.Prelude.{Some};
     ghost use Rattle.st_disk.specs.Recorded.{history_of};
-    ghost use Rattle.st_disk.specs.Told.{told_image};
+    ghost use Rattle.st_disk.specs.Told.{told_image, told_within};
 
     ghost history = { λ m. Some (history_of m) };
 
     ghost fault_count = { λ m. 0 };
+
+    ghost passes_within = { λ m h is. told_within m h is };
 
     ghost reads_as_image = { λ m h is. told_image m h is };
 

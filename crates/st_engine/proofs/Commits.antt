@@ -2,6 +2,7 @@
 use Rattle.std.proofs.Common.{◌≡◌, ◌∙◌, ◌<◌, ◌≤◌, ◌⊎◌, ◌+◌, ◌^◌, ℕ, max, Bool, true, false, if◌then◌else◌, List, Option, Some, None, Result, Ok, Err, IfSome, IsTrue, inl, inr, refl, sym, ap, subst, arith}
 use Rattle.std.specs.List.{list_all}
 use Rattle.std.specs.Option.{option_map, option_or}
+use Rattle.std.proofs.lemmas.Bool.{false≢true}
 use Rattle.std.specs.Result.{IsErrAnd, IsOkAnd}
 use Rattle.st_disk.specs.History.{History, seen}
 use Rattle.st_disk.specs.Moments.{ToldLeavesOnly}
@@ -260,7 +261,7 @@ module _ {D : Type 0} (history : D → Option History) (queue : Opened D) (pairs
         number-now = ap next_number (done-current ∙ written.place)
 
         pub done-keeps : Keeps history done
-        done-keeps = record { agrees = done-agrees; order = order ended refl; numbered = numbered ended refl }
+        done-keeps = record { agrees = done-agrees; order = order ended refl; numbered = numbered ended refl; untouched = λ e. absurd (false≢true e) }
           where
             order : (b : Bool) → ended ≡ b → new.state.discarded ≤ begin_behind ended began frame.seq
             order true is = rw (done-discarded, is) (omega (arith, keeps.order, new_is, small))
@@ -333,6 +334,7 @@ module _ {D : Type 0} (history : D → Option History) (queue : Opened D) (pairs
           agrees = left-agrees;
           order = subst (λ (d : ℕ). d ≤ began) (sym unwritten.discarded) keeps.order;
           numbered = subst (λ (n : ℕ). began ≤ n) (sym unwritten.next) keeps.numbered;
+          untouched = keeps.untouched;
         }
 
         pub refused : IsRefused history ops old left refusal

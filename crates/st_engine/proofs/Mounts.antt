@@ -1,5 +1,6 @@
 -- What an engine keeps of its disk.
 use Rattle.std.proofs.Common.{◌≡◌, ◌∙◌, ◌≤◌, ⊎_elim, inl, inr, ℕ, max, Bool, true, false, List, [], ◌∷◌, ◌++◌, Option, Some, None, Result, Ok, Err, IfSome, IsTrue, ◌==◌, length, fold, refl, sym, ap, subst, arith}
+use Rattle.std.proofs.lemmas.Bool.{false≢true}
 use Rattle.std.proofs.lemmas.Bool.Decides.{nat_tests}
 use Rattle.std.specs.Option.{option_map}
 use Rattle.st_disk.specs.History.{History, Files, seen}
@@ -267,6 +268,10 @@ pub mount-fresh : (told new : Option History) (frames : List Frame) (fresh : Boo
 mount-fresh None new frames fresh is read same = subst (λ (n : Option History). ToldFresh n fresh) (sym is) tt
 mount-fresh (Some h) new frames fresh is read same = subst (λ (n : Option History). ToldFresh n fresh) (sym is) (same ∙ ap is_none_read (sym read))
 
+untouched-read : (store : Store) (frames : List Frame) → Stand store.discarded store.began store.pairs store.cursor frames → store.fresh ≡ is_none_read (Ok frames) → store.fresh ≡ true → store.pairs ≡ []
+untouched-read store [] stand is fresh = sym (ap (λ (r : Recovery). r.pairs) stand.make)
+untouched-read store (frame ∷ frames) stand is fresh = absurd (false≢true (sym is ∙ fresh))
+
 -- an engine over a queue that was mounted, and whose frames were read
 module _ {D : Type 0} (history : D → Option History) (disk : D) (queue new : Opened D) (frames : List Frame) (store : Store) (bounds : Bounds)
     (read : IfSome (history disk) (λ h. frames_now h ≡ Ok frames)) (synced : history queue.disk ≡ option_map after_both (history disk)) (settled : ToldSettled (history queue.disk) queue.state.current)
@@ -314,4 +319,5 @@ module _ {D : Type 0} (history : D → Option History) (disk : D) (queue new : O
       agrees = mount-agrees;
       order = subst (λ (d : ℕ). d ≤ store.began) (sym discarded-is) order;
       numbered = subst (λ (p : Option Place). store.began ≤ next_number p) (sym current-is) numbered;
+      untouched = untouched-read store frames stand fresh_is;
     }

@@ -1,5 +1,5 @@
 -- An engine as its callers see it, and what it knows of its disk.
-use Rattle.std.specs.Prelude.{◌≡◌, ◌≤◌, ◌⊎◌, ℕ, Bool, false, List, Option, None, Ok, IfSome}
+use Rattle.std.specs.Prelude.{◌≡◌, ◌≤◌, ◌⊎◌, ℕ, Bool, true, false, List, [], Option, None, Ok, IfSome}
 use Rattle.st_disk.specs.History.{History, Files, MayLeave, seen}
 use Rattle.st_fold.specs.Map.{Map}
 use Rattle.st_engine.specs.Kept.{Stand}
@@ -63,6 +63,8 @@ pub record Keeps {D : Type 0} (history : D → Option History) (engine : Mounted
   pub agrees : ToldAgrees history engine
   pub order : engine.store.discarded ≤ engine.store.began
   pub numbered : engine.store.began ≤ next_number engine.place
+  -- a store without a frame has no pair
+  pub untouched : engine.store.fresh ≡ true → engine.store.pairs ≡ []
 
 -- A crash during a commit of the operations leaves the store before it, or the one behind it; and where a snapshot ended in a
 -- frame before, one does in a frame of what is left.

@@ -1,5 +1,5 @@
 // A durable map over a disk.
-ghost use Rattle.std.specs.Prelude.{◌≡◌, ◌≤◌, ◌^◌, ℕ, None, Ok, IsTrue, IfOk, IfErr, OnOk};
+ghost use Rattle.std.specs.Prelude.{◌≡◌, ◌≤◌, ◌^◌, ℕ, [], None, Ok, IsTrue, IfOk, IfErr, OnOk};
 ghost use Rattle.std.specs.List.{AllByRecursion, list_all};
 ghost use Rattle.st_disk.specs.History.{risen};
 ghost use Rattle.st_disk.specs.Moments.{ToldLeavesOnly};
@@ -176,9 +176,10 @@ impl<D: Disk> Engine<D> {
         self.pairs.share()
     }
 
-    /// Whether no frame was ever read or written.
+    /// Whether no frame was ever read or written. Then the map is empty.
     pub fn is_fresh(&self) -> bool
         ensures fresh { result ≡ self.now.store.fresh }
+        ensures untouched { IsTrue result → self.now.store.pairs ≡ [] }
         ensures agrees { ToldAgrees D.history self.now }
     {
         self.fresh

@@ -75,6 +75,13 @@ impl Cursor {
         }
     }
 
+    /// The log.
+    pub fn log(&self) -> &[Batch]
+        ensures { result.now ≡ self.now.log }
+    {
+        &self.log
+    }
+
     /// Takes the first batch above the last that was taken. None exactly where none is.
     pub fn next(&mut self) -> Option<&Batch>
         ensures* after { sem 𝓛 (follows_so the_row the_row self.entry.ghost_name none (λ _ _. ⊤) (λ new. new ≡ behind_next self.old)) }

@@ -3,7 +3,7 @@ use Rattle.std.proofs.Common.{◌≡◌, ◌∙◌, Option, Some, None, IfSome, 
 use Rattle.std.specs.Option.{option_map}
 use Rattle.st_board.specs.Base.{Store}
 use Rattle.st_board.specs.Stands.{IsStill, Standing, StandsFor}
-use Rattle.st_core.specs.Server.{HoldsState, IsMade, Keeps, ReadNow}
+use Rattle.st_core.specs.Server.{HoldsState, IsMade, Serves, ReadNow}
 use Rattle.st_course.specs.Course.{job_after}
 use Rattle.st_course.specs.declared.job.CommitJob.{CommitJob}
 use Rattle.st_cursor.specs.Reading.{Reading}
@@ -19,7 +19,7 @@ module _ {D P : Type 0} (given : Given) (opening : Opening) (store : Store) (tol
       → cursor.log ≡ given.log → cursor.last ≡ board.state.newest → board.state.flight ≡ None
       → IsMade given opening store board.trace engine.store.pairs → HoldsState given board.state engine.store.fresh engine.store.pairs
       → IsTrue (is_version given.log board.state.durable) → engine.broken ≡ None
-      → Keeps given opening store told (record { board = board; engine = engine; peer = peer; cursor = cursor; flight = None })
+      → Serves given opening store told (record { board = board; engine = engine; peer = peer; cursor = cursor; flight = None })
   keeps-first still stands agrees of_log at none made stored version sound = record {
     still = still;
     log = of_log;

@@ -5,7 +5,7 @@ use Rattle.std.specs.Option.{option_map}
 use Rattle.st_board.specs.Base.{Store, all_served}
 use Rattle.st_board.specs.Stands.{StandsFor}
 use Rattle.st_core.specs.Acts.{to}
-use Rattle.st_core.specs.Server.{Keeps, Serving}
+use Rattle.st_core.specs.Server.{Serves, Serving}
 use Rattle.st_core.proofs.Batches.{next-upto, within}
 use Rattle.st_core.proofs.Ending.{nothing-flies}
 use Rattle.st_cursor.specs.Reading.{next_of}
@@ -28,7 +28,7 @@ due-rest given state none not_due pieces = λ i.
 
 -- of a server it is the batch that follows in its log, up to a version
 pub due-following : {D P : Type 0} (given : Given) (opening : Opening) (store : Store) (told : D → Option History) (server : Serving D P)
-    → Keeps given opening store told server → StandsFor given opening store server.board → is_some server.flight ≡ false → commit_due given server.board.state ≡ false
+    → Serves given opening store told server → StandsFor given opening store server.board → is_some server.flight ≡ false → commit_due given server.board.state ≡ false
     → (upto : ℕ) (following : Option Batch) → following ≡ next_of server.cursor
     → due (to upto given) server.board.state ≡ option_map (λ batch. act.Apply) (option_and_then (within upto) following)
 due-following given opening store told server keeps stands none not_due upto following is =

@@ -6,7 +6,7 @@ use Rattle.std.proofs.lemmas.Option.{same_Some}
 use Rattle.st_board.specs.Base.{Store}
 use Rattle.st_board.specs.Stands.{StandsFor}
 use Rattle.st_core.specs.Acts.{event_of}
-use Rattle.st_core.specs.Server.{Keeps, OpenWithin, ReadNow, Serving}
+use Rattle.st_core.specs.Server.{Serves, OpenWithin, ReadNow, Serving}
 use Rattle.st_core.proofs.Moments.{told-started, told-weaker, within-longer, within-now}
 use Rattle.st_core.proofs.Opens.{KeyByKey, RangesOfUsers, Untouched, Written, WrittenIsStored, opens-now}
 use Rattle.st_course.specs.declared.job.CommitJob.{CommitJob}
@@ -20,7 +20,7 @@ use Rattle.st_model.specs.State.{Given, Opening, State}
 use Rattle.st_restart.specs.After.{OpenBehind}
 
 module _ {D P : Type 0} (given : Given) (opening : Opening) (store : Store) (told : D → Option History) (server : Serving D P)
-    (keeps : Keeps given opening store told server) (stands : StandsFor given opening store server.board) where
+    (keeps : Serves given opening store told server) (stands : StandsFor given opening store server.board) where
   abbrev state : State
   state = server.board.state
 

@@ -7,7 +7,7 @@ use Rattle.std.proofs.lemmas.List.Sums.{fold-append}
 use Rattle.std.proofs.lemmas.Option.{same_Some}
 use Rattle.st_board.specs.Base.{AreChanges, Store}
 use Rattle.st_board.specs.Stands.{Standing, StandsFor}
-use Rattle.st_core.specs.Server.{HoldsState, IsMade, Keeps, ReadNow, Serving, durable_of}
+use Rattle.st_core.specs.Server.{HoldsState, IsMade, Serves, ReadNow, Serving, durable_of}
 use Rattle.st_core.proofs.Acting.{batch-step}
 use Rattle.st_core.proofs.Batches.{commit-version, same-number}
 use Rattle.st_core.proofs.Courses.{CourseGoesOn, HasCourse, job-applied, job-durable, made-applied, made-began, made-durable}
@@ -30,6 +30,11 @@ use Rattle.st_model.specs.State.{Given, Opening, State, after_batch, began, comm
 use Rattle.st_mutation.specs.declared.batch.Batch.{Batch}
 use Rattle.st_restart.specs.Agreement.{is_version}
 
+-- a server that is the same serves the same
+pub served : {D P : Type 0} {given : Given} {opening : Opening} {store : Store} {told : D → Option History} {inside now : Serving D P}
+    → inside ≡ now → Serves given opening store told now → Serves given opening store told inside
+served {given = given} {opening = opening} {store = store} {told = told} same serves = subst (Serves given opening store told) (sym same) serves
+
 -- what a crash leaves now, of a disk that told before
 pub left-now : (old new : Option History) (P : Files → Type 0) → ToldLeavesOnly old new P → IfSome new (λ h. (images : Files) → MayLeave h images → P images)
 left-now None None P only = tt
@@ -38,7 +43,7 @@ left-now (Some h) None P only = absurd only
 left-now (Some h) (Some n) P only = λ images may. only.each images (inl may)
 
 module _ {D P : Type 0} (given : Given) (opening : Opening) (store : Store) (told : D → Option History) (server : Serving D P)
-    (keeps : Keeps given opening store told server) (stands : StandsFor given opening store server.board)
+    (keeps : Serves given opening store told server) (stands : StandsFor given opening store server.board)
     (has : HasCourse) (goes_on : CourseGoesOn) where
   abbrev state : State
   state = server.board.state
@@ -50,7 +55,7 @@ module _ {D P : Type 0} (given : Given) (opening : Opening) (store : Store) (tol
 
   pub keeps-applied : (batch : Batch) → next_batch given state ≡ Some batch → (board : Standing) → board.trace ≡ trace ++ Applied batch.version ∷ []
       → board.state ≡ after_batch state batch → (cursor : Reading) → cursor.log ≡ given.log → cursor.last ≡ batch.version
-      → Keeps given opening store told (record server { board = board; cursor = cursor })
+      → Serves given opening store told (record server { board = board; cursor = cursor })
   keeps-applied batch next board traced is_state cursor of_log at = record {
     still = keeps.still;
     log = of_log;
@@ -101,7 +106,7 @@ module _ {D P : Type 0} (given : Given) (opening : Opening) (store : Store) (tol
       → (board : Standing) → board.trace ≡ trace ++ Began job.version ∷ [] → board.state ≡ began given state job.version
       → job_after given opening store.fresh board.trace ≡ Some job → AreChanges job.ops
       → ForSome board.state.flight (λ flight. IsState (meta_of given flight))
-      → Keeps given opening store told (record server { board = board; flight = Some job })
+      → Serves given opening store told (record server { board = board; flight = Some job })
   keeps-began job due versioned board traced is_state in_flight changes storable = record {
     still = keeps.still;
     log = keeps.log;
@@ -142,14 +147,14 @@ module _ {D P : Type 0} (given : Given) (opening : Opening) (store : Store) (tol
     pub keeps-ended : (board : Standing) → board.trace ≡ trace ++ Durable job.version ∷ [] → end_commit state job.version state.flight ≡ Some board.state
         → (engine : Mounted D) → engine.store.pairs ≡ ops_on server.engine.store.pairs job.ops → engine.store.fresh ≡ false → engine.broken ≡ None
         → ToldAgrees told engine
-        → Keeps given opening store told (record server { board = board; engine = engine; flight = None })
+        → Serves given opening store told (record server { board = board; engine = engine; flight = None })
     keeps-ended board traced ends engine pairs fresh unbroken agrees = of state.flight refl
       where
-        of : (o : Option Opening) → state.flight ≡ o → Keeps given opening store told (record server { board = board; engine = engine; flight = None })
+        of : (o : Option Opening) → state.flight ≡ o → Serves given opening store told (record server { board = board; engine = engine; flight = None })
         of None none = absurd (cc (sym (ap (end_commit state job.version) none) ∙ ends))
         of (Some flight) is = by_version (flight.version == job.version) refl
           where
-            by_version : (t : Bool) → (flight.version == job.version) ≡ t → Keeps given opening store told (record server { board = board; engine = engine; flight = None })
+            by_version : (t : Bool) → (flight.version == job.version) ≡ t → Serves given opening store told (record server { board = board; engine = engine; flight = None })
             by_version false isnt = absurd (cc (sym (ap (end_commit state job.version) is ∙ ap (λ (t : Bool). cond t (Some (ended state flight)) None) isnt) ∙ ends))
             by_version true same = record {
               still = keeps.still;
@@ -188,7 +193,7 @@ module _ {D P : Type 0} (given : Given) (opening : Opening) (store : Store) (tol
     pub keeps-refused : (engine : Mounted D) → engine.store ≡ server.engine.store
         → (server.engine.broken ≡ None → ToldLeavesOnly (told server.engine.disk) (told engine.disk) (IsLeft (told server.engine.disk) server.engine.store job.ops))
         → ((faults : ℕ) → server.engine.broken ≡ Some faults → engine ≡ server.engine)
-        → Keeps given opening store told (record server { engine = engine; flight = Some job })
+        → Serves given opening store told (record server { engine = engine; flight = Some job })
     keeps-refused engine same only untouched = record {
       still = keeps.still;
       log = keeps.log;

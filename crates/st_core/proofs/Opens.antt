@@ -12,7 +12,7 @@ use Rattle.std.proofs.lemmas.Map.Lookups.{exact_bytes}
 use Rattle.st_board.specs.Base.{LeadTo, Store, value_behind}
 use Rattle.st_board.specs.Kept.{IsUsers}
 use Rattle.st_board.specs.Stands.{IsStill, Standing, StandsFor}
-use Rattle.st_core.specs.Server.{HoldsState, IsMade, Keeps, ReadNow, Serving, durable_of}
+use Rattle.st_core.specs.Server.{HoldsState, IsMade, Serves, ReadNow, Serving, durable_of}
 use Rattle.st_core.proofs.Users.{none-beside}
 use Rattle.st_course.specs.Course.{job_after, made_after}
 use Rattle.st_course.specs.Jobs.{meta_of}
@@ -132,7 +132,7 @@ module _ (given : Given) (opening : Opening) (store : Store) (board : Standing) 
     }
 
 module _ {D P : Type 0} (given : Given) (opening : Opening) (store : Store) (told : D → Option History) (server : Serving D P)
-    (keeps : Keeps given opening store told server) (stands : StandsFor given opening store server.board)
+    (keeps : Serves given opening store told server) (stands : StandsFor given opening store server.board)
     (untouched : Untouched) (written : Written) (by_key : KeyByKey) (of_users : RangesOfUsers) (is_stored : WrittenIsStored) where
   abbrev state : State
   state = server.board.state

@@ -32,20 +32,21 @@ anew ran = record ran { calls = [] }
 record AreMore (old new ran : Ran) : Type 0 where
   kept : new.kept ≡ ran.kept
   calls : new.calls ≡ old.calls ++ ran.calls
+  past : new.past ≡ ran.past
 
 more-commit : (ran : Ran) (result : Result Done Refused) → AreMore ran (behind_commit ran result) (behind_commit (anew ran) result)
-more-commit ran (Ok done) = record { kept = refl; calls = refl }
-more-commit ran (Err refused) = record { kept = refl; calls = sym (append-nil ran.calls) }
+more-commit ran (Ok done) = record { kept = refl; calls = refl; past = refl }
+more-commit ran (Err refused) = record { kept = refl; calls = sym (append-nil ran.calls); past = refl }
 
 more-flight : (bounds : Bounds) (ran : Ran) (flight : Option CommitJob) → AreMore ran (behind_flight bounds ran flight) (behind_flight bounds (anew ran) flight)
-more-flight bounds ran None = record { kept = refl; calls = sym (append-nil ran.calls) }
+more-flight bounds ran None = record { kept = refl; calls = sym (append-nil ran.calls); past = refl }
 more-flight bounds ran (Some job) = more-commit ran (commit_of bounds ran.kept job.ops)
 
 more-calls : (bounds : Bounds) (ran : Ran) (flight : Option CommitJob) (action : Act) → AreMore ran (on_files bounds ran flight action) (on_files bounds (anew ran) flight action)
-more-calls bounds ran flight act.Apply = record { kept = refl; calls = sym (append-nil ran.calls) }
-more-calls bounds ran flight act.Start = record { kept = refl; calls = sym (append-nil ran.calls) }
-more-calls bounds ran flight act.Block = record { kept = refl; calls = sym (append-nil ran.calls) }
-more-calls bounds ran flight act.Began = record { kept = refl; calls = sym (append-nil ran.calls) }
+more-calls bounds ran flight act.Apply = record { kept = refl; calls = sym (append-nil ran.calls); past = refl }
+more-calls bounds ran flight act.Start = record { kept = refl; calls = sym (append-nil ran.calls); past = refl }
+more-calls bounds ran flight act.Block = record { kept = refl; calls = sym (append-nil ran.calls); past = refl }
+more-calls bounds ran flight act.Began = record { kept = refl; calls = sym (append-nil ran.calls); past = refl }
 more-calls bounds ran flight act.Durable = more-flight bounds ran flight
 
 -- a commit that is done
@@ -55,7 +56,7 @@ pub run-commit : {D : Type 0} (told : D → Option History) (board : Standing) (
 run-commit told board now next job flight is done = of (told now.disk) done
   where
     by_result : (h : History) (r : Result Done Refused) → IsOkAnd r (IsDone h (told next.disk) next) → IsRun told h next (behind_commit (ran_at board now h) r)
-    by_result h (Ok one) done = record { history = done.history; keeps = done.behind }
+    by_result h (Ok one) done = record { made = record { history = done.history; keeps = done.behind }; within = refl }
     by_result h (Err refused) done = absurd done
 
     of : (o : Option History) → IfSome o (λ h. IsOkAnd (commit_of now.bounds (kept_in (seen h) now) job.ops) (IsDone h (told next.disk) next))
@@ -67,12 +68,16 @@ run-commit told board now next job flight is done = of (told now.disk) done
 
 -- an engine of which no call was made
 pub run-same : {D : Type 0} (told : D → Option History) (old next : Mounted D) (ran : History → Ran) → next ≡ old
-    → ((h : History) → (ran h).calls ≡ []) → ((h : History) → (ran h).kept ≡ kept_in (seen h) old) → IfSome (told old.disk) (λ h. IsRun told h next (ran h))
-run-same told old next ran same none kept =
+    → ((h : History) → (ran h).calls ≡ []) → ((h : History) → (ran h).kept ≡ kept_in (seen h) old) → ((h : History) → (ran h).past ≡ None)
+    → IfSome (told old.disk) (λ h. IsRun told h next (ran h))
+run-same told old next ran same none kept within =
     subst (λ engine. IfSome (told old.disk) (λ h. IsRun told h engine (ran h))) (sym same)
     (told-so (told old.disk) (λ h. IsRun told h old (ran h)) (λ h is. record {
-      history = is ∙ ap (λ calls. Some (made calls h)) (sym (none h));
-      keeps = ap (λ calls. kept_in (seen (made calls h)) old) (none h) ∙ sym (kept h);
+      made = record {
+        history = is ∙ ap (λ calls. Some (made calls h)) (sym (none h));
+        keeps = ap (λ calls. kept_in (seen (made calls h)) old) (none h) ∙ sym (kept h);
+      };
+      within = within h;
     }))
 
 module _ (given : Given) (opening : Opening) (fresh : Bool) (upto : ℕ) where
@@ -89,8 +94,11 @@ module _ (given : Given) (opening : Opening) (fresh : Bool) (upto : ℕ) where
         → IfSome (told now.disk) (λ h. IsRun told h next (run_on given opening fresh bounds upto (ran_at board now h) action))
         → IsRun told h next (run_on given opening fresh bounds upto ran action)
     run-step join bounds ran board now next action h reached run more = record {
-      history = step.history ∙ ap Some (sym (join ran.calls added h) ∙ ap (λ calls. made calls h) (sym grown.calls));
-      keeps = ap (λ calls. kept_in (seen (made calls h)) next) grown.calls ∙ ap (λ one. kept_in (seen one) next) (join ran.calls added h) ∙ step.keeps ∙ sym grown.kept;
+      made = record {
+        history = step.made.history ∙ ap Some (sym (join ran.calls added h) ∙ ap (λ calls. made calls h) (sym grown.calls));
+        keeps = ap (λ calls. kept_in (seen (made calls h)) next) grown.calls ∙ ap (λ one. kept_in (seen one) next) (join ran.calls added h) ∙ step.made.keeps ∙ sym grown.kept;
+      };
+      within = grown.past ∙ step.within;
     }
       where
         flight : Option CommitJob
@@ -102,8 +110,8 @@ module _ (given : Given) (opening : Opening) (fresh : Bool) (upto : ℕ) where
         step : IsRun told (made ran.calls h) next (run_on given opening fresh bounds upto (anew ran) action)
         step =
             subst (λ one. IsRun told (made ran.calls h) next (run_on given opening fresh bounds upto one action))
-            (λ i. record { reached = reached i; kept = run.keeps i; calls = [] })
-            (subst (λ o. IfSome o (λ h. IsRun told h next (run_on given opening fresh bounds upto (ran_at board now h) action))) run.history more)
+            (λ i. record { reached = reached i; kept = run.made.keeps i; calls = []; past = sym run.within i })
+            (subst (λ o. IfSome o (λ h. IsRun told h next (run_on given opening fresh bounds upto (ran_at board now h) action))) run.made.history more)
 
         grown : AreMore ran (on_files bounds ran flight action) (on_files bounds (anew ran) flight action)
         grown = more-calls bounds ran flight action

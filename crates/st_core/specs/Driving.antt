@@ -10,23 +10,25 @@ use Rattle.st_course.specs.declared.job.CommitJob.{CommitJob}
 use Rattle.st_disk.specs.Calls.{made}
 use Rattle.st_disk.specs.History.{History, seen}
 use Rattle.st_disk.specs.Recorded.{Call}
-use Rattle.st_engine.specs.Commit.{Done, Refused, commit_of}
+use Rattle.st_engine.specs.Commit.{Done, Past, Refused, commit_of}
 use Rattle.st_engine.specs.Engine.{Mounted, kept_in}
 use Rattle.st_engine.specs.Store.{Bounds, Kept}
 use Rattle.st_fold.specs.declared.plan.Act.{Act}
 use Rattle.st_fold.specs.declared.plan.Act.TheVariants as act
 use Rattle.st_model.specs.State.{Given, Opening}
 
--- How far a server is: where its life is, the store in its files, and the calls that were made of the disk since.
+-- How far a server is: where its life is, the store in its files, the calls that were made of the disk since, and what is past
+-- its bound, where a commit can't be made.
 pub record Ran : Type 0 where
   pub reached : Reached
   pub kept : Kept
   pub calls : List Call
+  pub past : Option Past
 
--- the store and the calls behind a commit, where it can be made
+-- the store and the calls behind a commit, or what is past its bound
 abbrev pub behind_commit : Ran → Result Done Refused → Ran
 behind_commit ran (Ok done) = record ran { kept = done.behind; calls = ran.calls ++ done.calls }
-behind_commit ran (Err refused) = ran
+behind_commit ran (Err refused) = record ran { past = Some refused.past }
 
 -- where a job is in flight, its commit is made
 abbrev pub behind_flight : Bounds → Ran → Option CommitJob → Ran
@@ -48,16 +50,17 @@ run_on given opening fresh bounds upto ran act =
 
 -- a board and an engine over a disk with this history, of which no further call was made yet
 abbrev pub ran_at : {D : Type 0} → Standing → Mounted D → History → Ran
-ran_at board engine h = record { reached = reached_by board; kept = kept_in (seen h) engine; calls = [] }
+ran_at board engine h = record { reached = reached_by board; kept = kept_in (seen h) engine; calls = []; past = None }
 
 -- An engine that made these calls since its disk had a history, and keeps this store behind them.
 pub record HasMade {D : Type 0} (told : D → Option History) (h : History) (engine : Mounted D) (calls : List Call) (kept : Kept) : Type 0 where
   pub history : told engine.disk ≡ Some (made calls h)
   pub keeps : kept_in (seen (made calls h)) engine ≡ kept
 
--- an engine that was run so
-abbrev pub IsRun : {D : Type 0} → (D → Option History) → History → Mounted D → Ran → Type 0
-IsRun told h engine ran = HasMade told h engine ran.calls ran.kept
+-- An engine that was run so, and each of its commits could be made.
+pub record IsRun {D : Type 0} (told : D → Option History) (h : History) (engine : Mounted D) (ran : Ran) : Type 0 where
+  pub made : HasMade told h engine ran.calls ran.kept
+  pub within : ran.past ≡ None
 
 -- Acts were done up to one that is due and was refused. No call of the device failed before that one.
 pub record IsStopped {D P : Type 0} (given : Given) (opening : Opening) (fresh : Bool) (upto : ℕ) (told : D → Option History) (count : D → ℕ) (old : Serving D P)

@@ -54,8 +54,8 @@ pub record IsMade (given : Given) (opening : Opening) (store : Store) (trace : L
   pub opened : filter (λ pair. holds opening.available pair.0) mounted ≡ store.pairs
   pub made : pairs ≡ ops_on mounted (made_after given opening store.fresh trace)
 
--- what a server keeps of its parts
-pub record Keeps {D P : Type 0} (given : Given) (opening : Opening) (store : Store) (told : D → Option History) (server : Serving D P) : Type 0 where
+-- A server serves its life: its parts are what the life's trace made of what it was given and opened with.
+pub record Serves {D P : Type 0} (given : Given) (opening : Opening) (store : Store) (told : D → Option History) (server : Serving D P) : Type 0 where
   pub still : IsStill given opening
   pub log : server.cursor.log ≡ given.log
   pub at : server.cursor.last ≡ server.board.state.newest

@@ -1,11 +1,12 @@
 //! The server.
+ghost use Rattle.std.specs.Borrow.{sem};
 ghost use Rattle.std.specs.Prelude.{◌≡◌, ◌≤◌, ◌+◌, ℕ, fold, None, OnOk, OnErr, IfOk, IfErr, IfSome, IsTrue, length, is_some, if◌then◌else◌};
 ghost use Rattle.st_board.specs.Base.{all_served};
 ghost use Rattle.st_board.specs.Stands.{IsStill};
 ghost use Rattle.st_core.specs.Acts.{act_on, event_of, reached_by, to};
 ghost use Rattle.st_core.specs.Driving.{IsRun, IsStopped, behind_flight, ran_at, run_on};
 ghost use Rattle.st_core.specs.Refusing.{IsOfCommit, IsRefused, IsWell};
-ghost use Rattle.st_core.specs.Server.{HoldsState, IsMade, OpenWithin};
+ghost use Rattle.st_core.specs.Server.{HoldsState, IsMade, OpenWithin, Serves};
 ghost use Rattle.st_course.specs.Course.{job_after};
 ghost use Rattle.st_disk.specs.History.{Files, MayLeave};
 ghost use Rattle.st_disk.specs.Moments.{ToldLeavesOnly};
@@ -22,6 +23,7 @@ use st_disk::{Disk, calls_join};
 use st_engine::{Engine, EngineRefusal, operations_change_each_key};
 use st_fold::Act;
 use st_meta::written_is_stored;
+use st_mutation::Batch;
 use st_restart::{stored_ranges_are_of_users, stores_open};
 use std::alloc::AllocError;
 use std::marker::Model;
@@ -38,14 +40,11 @@ pub struct Server<N: Story, D: Disk, P> {
 }
 
 impl<N: Story, D: Disk, P> Model for Server<N, D, P> {
-    ghost use Rattle.st_core.specs.Server.{Keeps, Serving};
+    ghost use Rattle.st_core.specs.Server.{Serving};
 
     ghost Value = { Serving D P };
 
     ghost view = { λ s. record { board = s.board; engine = s.engine; peer = s.peer; cursor = s.cursor; flight = s.flight } };
-
-    ghost invariant = { λ s. Keeps N.given N.opening N.store D.history
-        (record { board = s.board; engine = s.engine; peer = s.peer; cursor = s.cursor; flight = s.flight }) };
 }
 
 /// What a server is made of.
@@ -66,6 +65,8 @@ fn count_of(is_made: bool) -> u64
 }
 
 impl<N: Story, D: Disk, P> Server<N, D, P> {
+    ghost use Rattle.st_core.specs.Lending.{LendsBoard};
+
     /// The server of a life that did nothing yet.
     pub fn new(board: Board<N>, engine: Engine<D>, peer: P, mut cursor: Cursor) -> Server<N, D, P>
         requires still { IsStill N.given N.opening }
@@ -79,6 +80,8 @@ impl<N: Story, D: Disk, P> Server<N, D, P> {
         ensures board { result.board ≡ board }
         ensures engine { result.engine ≡ engine }
         ensures peer { result.peer ≡ peer }
+        ensures flight { result.flight ≡ None }
+        ensures serves { Serves N.given N.opening N.store D.history result }
     {
         let Ok(()) = cursor.rewind(board.newest()) else {
             unreachable!()
@@ -101,9 +104,26 @@ impl<N: Story, D: Disk, P> Server<N, D, P> {
         &self.board
     }
 
+    /// The board, to be changed.
+    pub fn board_mut(&mut self) -> &mut Board<N>
+        ensures* writes_back { sem 𝓛 (LendsBoard N.row D.row P.row N.Story D.Disk self.entry result) }
+        ensures board { result.now ≡ self.old.board }
+    {
+        &mut self.board
+    }
+
+    /// The log.
+    pub fn log(&self) -> &[Batch]
+        requires serves { Serves N.given N.opening N.store D.history self.now }
+        ensures { result.now ≡ N.given.log }
+    {
+        self.cursor.log()
+    }
+
     /// What is due first: to end the commit in flight, to begin one, or to apply a batch of at most this version. None exactly
     /// at rest.
     pub fn due(&self, upto: u64) -> Option<Act>
+        requires serves { Serves N.given N.opening N.store D.history self.now }
         ensures { result ≡ due (to upto N.given) self.now.board.state }
     {
         // its trace tells what is in flight
@@ -126,12 +146,14 @@ impl<N: Story, D: Disk, P> Server<N, D, P> {
 
     // Applies the next batch, unless its version is greater than this one.
     fn apply(&mut self, upto: u64) -> Result<bool, AllocError>
-        requires { upto ≤ N.given.upto }
+        requires serves { Serves N.given N.opening N.store D.history self.old }
+        requires upto { upto ≤ N.given.upto }
         ensures told { IfOk result (λ done. done ≡ is_some (event_of (to upto N.given) self.old.board.state act.Apply)) }
         ensures acted { OnOk result (reached_by self.new.board ≡ act_on (to upto N.given) (reached_by self.old.board) act.Apply) }
         ensures due { OnErr result (IsTrue (is_some (event_of (to upto N.given) self.old.board.state act.Apply))) }
         ensures engine { self.new.engine ≡ self.old.engine }
         ensures err { OnErr result (self.new ≡ self.old) }
+        ensures serves { Serves N.given N.opening N.store D.history self.new }
     {
         course_goes_on();
         let _ = self.board.trace();
@@ -156,11 +178,13 @@ impl<N: Story, D: Disk, P> Server<N, D, P> {
 
     // Begins a commit, where one is due.
     fn begin(&mut self) -> Result<bool, AllocError>
+        requires serves { Serves N.given N.opening N.store D.history self.old }
         ensures told { IfOk result (λ done. done ≡ is_some (event_of N.given self.old.board.state act.Began)) }
         ensures acted { OnOk result (reached_by self.new.board ≡ act_on N.given (reached_by self.old.board) act.Began) }
         ensures due { OnErr result (IsTrue (is_some (event_of N.given self.old.board.state act.Began))) }
         ensures engine { self.new.engine ≡ self.old.engine }
         ensures err { OnErr result (self.new ≡ self.old) }
+        ensures serves { Serves N.given N.opening N.store D.history self.new }
     {
         course_goes_on();
         let _ = self.board.trace();
@@ -176,6 +200,7 @@ impl<N: Story, D: Disk, P> Server<N, D, P> {
 
     // Ends the commit in flight, where there is one.
     fn end(&mut self) -> Result<bool, EngineRefusal>
+        requires serves { Serves N.given N.opening N.store D.history self.old }
         ensures told { IfOk result (λ done. done ≡ is_some (event_of N.given self.old.board.state act.Durable)) }
         ensures acted { OnOk result (reached_by self.new.board ≡ act_on N.given (reached_by self.old.board) act.Durable) }
         ensures due { OnErr result (IsTrue (is_some (event_of N.given self.old.board.state act.Durable))) }
@@ -185,6 +210,7 @@ impl<N: Story, D: Disk, P> Server<N, D, P> {
         ensures well { OnOk result (IsWell D.fault_count self.old.engine self.new.engine) }
         ensures refused { IfErr result (IsOfCommit D.history D.fault_count self.old.engine self.new.engine self.new.flight) }
         ensures err { OnErr result (self.new.board ≡ self.old.board) }
+        ensures serves { Serves N.given N.opening N.store D.history self.new }
     {
         operations_change_each_key();
         course_goes_on();
@@ -209,6 +235,7 @@ impl<N: Story, D: Disk, P> Server<N, D, P> {
 
     // What a crash leaves now opens behind the trace, and all keys are served.
     fn opens(&self)
+        requires serves { Serves N.given N.opening N.store D.history self.now }
         ensures now { ToldLeavesOnly (D.history self.now.engine.disk) (D.history self.now.engine.disk) (OpenWithin N.given N.opening (length self.now.board.trace) self.now.board.trace) }
         ensures pieces { self.now.board.state.pieces ≡ all_served }
     {
@@ -220,7 +247,8 @@ impl<N: Story, D: Disk, P> Server<N, D, P> {
     }
 
     fn act(&mut self, action: Act, upto: u64) -> Result<bool, DriveRefusal>
-        requires { upto ≤ N.given.upto }
+        requires serves { Serves N.given N.opening N.store D.history self.old }
+        requires upto { upto ≤ N.given.upto }
         ensures told { IfOk result (λ done. done ≡ is_some (event_of (to upto N.given) self.old.board.state action)) }
         ensures acted { OnOk result (reached_by self.new.board ≡ act_on (to upto N.given) (reached_by self.old.board) action) }
         ensures due { OnErr result (IsTrue (is_some (event_of (to upto N.given) self.old.board.state action))) }
@@ -230,6 +258,7 @@ impl<N: Story, D: Disk, P> Server<N, D, P> {
         ensures well { OnOk result (IsWell D.fault_count self.old.engine self.new.engine) }
         ensures refused { IfErr result (IsRefused D.history D.fault_count self.old.engine self.new.engine self.new.flight action) }
         ensures err { OnErr result (self.new.board ≡ self.old.board) }
+        ensures serves { Serves N.given N.opening N.store D.history self.new }
     {
         self.opens();
         match action {
@@ -246,7 +275,8 @@ impl<N: Story, D: Disk, P> Server<N, D, P> {
     /// that is due is refused, those before it stand; and the disk refuses none but the end of a commit. At each moment meanwhile
     /// a crash leaves files that open behind the trace that it had come to.
     pub fn drive(&mut self, acts: &[Act], upto: u64) -> Result<u64, DriveRefusal>
-        requires { upto ≤ N.given.upto }
+        requires serves { Serves N.given N.opening N.store D.history self.old }
+        requires upto { upto ≤ N.given.upto }
         ensures told { IfOk result (λ done. length self.new.board.trace ≡ length self.old.board.trace + done) }
         ensures acted { OnOk result (reached_by self.new.board ≡ fold (act_on (to upto N.given)) (reached_by self.old.board) acts.now) }
         ensures stopped { IfErr result (IsStopped N.given N.opening N.store.fresh upto D.history D.fault_count self.old acts.now self.new) }
@@ -254,6 +284,7 @@ impl<N: Story, D: Disk, P> Server<N, D, P> {
             (fold (run_on N.given N.opening N.store.fresh self.old.engine.bounds upto) (ran_at self.old.board self.old.engine h) acts.now))) }
         ensures well { OnOk result (IsWell D.fault_count self.old.engine self.new.engine) }
         ensures any_moment { ToldLeavesOnly (D.history self.old.engine.disk) (D.history self.new.engine.disk) (OpenWithin N.given N.opening (length self.old.board.trace) self.new.board.trace) }
+        ensures serves { Serves N.given N.opening N.store D.history self.new }
     {
         calls_join();
         self.opens();
@@ -265,14 +296,21 @@ impl<N: Story, D: Disk, P> Server<N, D, P> {
         Ok(done)
     }
 
-    /// What it is made of. It takes no memory.
+    /// What it is made of. Whatever a crash leaves of the disk, its files open behind the server's trace. It takes no memory.
     pub fn into_parts(self) -> Parts<N, D, P>
+        requires serves { Serves N.given N.opening N.store D.history self }
         ensures board { result.board ≡ self.board }
         ensures engine { result.engine ≡ self.engine }
         ensures peer { result.peer ≡ self.peer }
         ensures cursor { result.cursor ≡ self.cursor }
         ensures flight { result.flight ≡ self.flight }
+        ensures opens { IfSome (D.history result.engine.disk) (λ h. (images : Files) → MayLeave h images → OpenBehind N.given self.board.state images) }
     {
+        operations_change_each_key();
+        written_is_stored();
+        stores_open();
+        stored_ranges_are_of_users();
+        let _ = self.board.trace();
         let Server {
             board,
             engine,
@@ -293,21 +331,17 @@ impl<N: Story, D: Disk, P> Server<N, D, P> {
 impl<N: Story, D: Disk, P: Drop> Server<N, D, P> {
     /// The disk, whose files open behind the server's trace, whatever a crash leaves of them. It takes no memory.
     pub fn into_disk(self) -> D
+        requires serves { Serves N.given N.opening N.store D.history self }
         ensures disk { result ≡ self.engine.disk }
         ensures opens { IfSome (D.history result) (λ h. (images : Files) → MayLeave h images → OpenBehind N.given self.board.state images) }
     {
-        operations_change_each_key();
-        written_is_stored();
-        stores_open();
-        stored_ranges_are_of_users();
-        let _ = self.board.trace();
-        let Server {
+        let Parts {
             board: _,
             engine,
             peer: _,
             cursor: _,
             flight: _,
-        } = self;
+        } = self.into_parts();
         engine.dismount()
     }
 }

@@ -98,6 +98,13 @@ fn cursor(alloc: Global, first: &Batch, second: &Batch) -> Result<Cursor, Fail>
     Ok(Cursor::new(log))
 }
 
+// Looks at a board that is lent out.
+fn newest_of<N: Story>(board: &mut Board<N>) -> u64
+    ensures { board.new ≡ board.old }
+{
+    board.newest()
+}
+
 fn play<N: Story>(
     rt: &impl Abort,
     alloc: Global,
@@ -116,6 +123,7 @@ fn play<N: Story>(
     let board = begin::<N>(alloc, first, second)?;
     let log = cursor(alloc, first, second)?;
     let mut server = Server::new(board, engine, (), log);
+    assert_eq!(rt; server.log().len(), 2);
     assert_eq!(rt; server.due(2), Some(Act::Apply));
     // nothing is to be committed before the second batch, and no fetch is due
     let acts = [
@@ -127,6 +135,7 @@ fn play<N: Story>(
         Act::Began,
     ];
     assert_eq!(rt; server.drive(&acts, 2), Ok(3));
+    assert_eq!(rt; newest_of(server.board_mut()), 2);
     assert_eq!(rt; server.due(2), Some(Act::Durable));
     assert_eq!(rt;
         server.drive(&[Act::Apply, Act::Durable, Act::Durable], 2),

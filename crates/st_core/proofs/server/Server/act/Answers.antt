@@ -1,7 +1,7 @@
 use Rattle.std.proofs.Common.{◌∙◌, [], refl, ap}
 use Rattle.std.specs.List.{cons_option}
 use Rattle.st_core.specs.Acts.{event_of, reached_by, to}
-use Rattle.st_core.specs.Driving.{ran_at}
+use Rattle.st_core.specs.Driving.{ran_at, run_on}
 use Rattle.st_core.proofs.Acting.{acted-trace}
 use Rattle.st_core.proofs.Moments.{told-longer}
 use Rattle.st_core.proofs.Running.{run-same}
@@ -28,8 +28,14 @@ returns-in_ok-begin-in-Began-clause-any_moment g c =
 
 pub returns-in_ok-apply-in-Apply-clause-ran : goal.returns-in_ok-apply-in-Apply-clause-ran
 returns-in_ok-apply-in-Apply-clause-ran g c =
-    rw c.in-Apply.is (run-same g.D.Disk.history c.args.self.now.engine _ (ran_at c.args.self.now.board c.args.self.now.engine) c.in_ok-apply-in-Apply.ensures.engine (λ h. refl) (λ h. refl))
+    rw c.in-Apply.is
+    (run-same g.D.Disk.history c.args.self.now.engine _
+    (λ h. run_on g.N.Story.given g.N.Story.opening g.N.Story.store.fresh c.args.self.now.engine.bounds c.args.upto (ran_at c.args.self.now.board c.args.self.now.engine h) act.Apply)
+    c.in_ok-apply-in-Apply.ensures.engine (λ h. refl) (λ h. refl) (λ h. refl))
 
 pub returns-in_ok-begin-in-Began-clause-ran : goal.returns-in_ok-begin-in-Began-clause-ran
 returns-in_ok-begin-in-Began-clause-ran g c =
-    rw c.in-Began.is (run-same g.D.Disk.history c.args.self.now.engine _ (ran_at c.args.self.now.board c.args.self.now.engine) c.in_ok-begin-in-Began.ensures.engine (λ h. refl) (λ h. refl))
+    rw c.in-Began.is
+    (run-same g.D.Disk.history c.args.self.now.engine _
+    (λ h. run_on g.N.Story.given g.N.Story.opening g.N.Story.store.fresh c.args.self.now.engine.bounds c.args.upto (ran_at c.args.self.now.board c.args.self.now.engine h) act.Began)
+    c.in_ok-begin-in-Began.ensures.engine (λ h. refl) (λ h. refl) (λ h. refl))

@@ -7,7 +7,7 @@ use Rattle.st_model.specs.State.{Given, State, after_batch, next_batch}
 use Rattle.st_mutation.specs.declared.batch.Batch.{Batch}
 use Rattle.st_core.proofs.Acting.{acts-none, acts-some, batch-step}
 use Rattle.st_core.proofs.Batches.{next-upto, within-is, within-not}
-use Rattle.st_core.proofs.Keeping.{keeps-applied}
+use Rattle.st_core.proofs.Keeping.{keeps-applied, served}
 use Rattle.st_core.proofs.server.Server.apply.Goals as goal
 
 -- no event comes where no batch does
@@ -17,21 +17,21 @@ event-of given state found next = ap (option_map (λ (batch : Batch). Applied ba
 pub returns-in_default-clause-told : goal.returns-in_default-clause-told
 returns-in_default-clause-told g c =
     rw (← c.self.view_is)
-    (let keeps = c.self.invariant in
+    (let keeps = served c.self.view_is c.requires.serves in
     sym (ap is_some (event-of (to c.args.upto g.N.Story.given) c.self.inside.board.state None
     (next-upto g.N.Story.given c.self.inside.board.state c.self.inside.cursor keeps.log keeps.at keeps.still.rises c.args.upto None (ap option_copied (sym c.in_default.is) ∙ c.following.ensures.next)))))
 
 pub returns-in_default-clause-acted : goal.returns-in_default-clause-acted
 returns-in_default-clause-acted g c =
     rw (← c.self.view_is)
-    (let keeps = c.self.invariant in
+    (let keeps = served c.self.view_is c.requires.serves in
     sym (acts-none (to c.args.upto g.N.Story.given) (reached_by c.self.inside.board) Apply (event-of (to c.args.upto g.N.Story.given) c.self.inside.board.state None
     (next-upto g.N.Story.given c.self.inside.board.state c.self.inside.cursor keeps.log keeps.at keeps.still.rises c.args.upto None (ap option_copied (sym c.in_default.is) ∙ c.following.ensures.next)))))
 
 pub returns-then-version-upto-clause-told : goal.returns-then-version-upto-clause-told
 returns-then-version-upto-clause-told g c =
     rw (← c.self.view_is)
-    (let keeps = c.self.invariant in
+    (let keeps = served c.self.view_is c.requires.serves in
     let batch = c.in-Some.batch.now in
     sym (ap is_some (event-of (to c.args.upto g.N.Story.given) c.self.inside.board.state None
     (next-upto g.N.Story.given c.self.inside.board.state c.self.inside.cursor keeps.log keeps.at keeps.still.rises c.args.upto (Some batch) (ap option_copied (sym c.in-Some.is) ∙ c.following.ensures.next)
@@ -40,7 +40,7 @@ returns-then-version-upto-clause-told g c =
 pub returns-then-version-upto-clause-acted : goal.returns-then-version-upto-clause-acted
 returns-then-version-upto-clause-acted g c =
     rw (← c.self.view_is)
-    (let keeps = c.self.invariant in
+    (let keeps = served c.self.view_is c.requires.serves in
     let batch = c.in-Some.batch.now in
     sym (acts-none (to c.args.upto g.N.Story.given) (reached_by c.self.inside.board) Apply (event-of (to c.args.upto g.N.Story.given) c.self.inside.board.state None
     (next-upto g.N.Story.given c.self.inside.board.state c.self.inside.cursor keeps.log keeps.at keeps.still.rises c.args.upto (Some batch) (ap option_copied (sym c.in-Some.is) ∙ c.following.ensures.next)
@@ -48,20 +48,20 @@ returns-then-version-upto-clause-acted g c =
 
 pub apply-requires : goal.apply-requires
 apply-requires g c = λ _.
-    let keeps = c.self.invariant in
+    let keeps = served c.self.view_is c.requires.serves in
     let batch = c.in-Some.batch.now in
     let given = g.N.Story.given in
     next-upto given c.self.inside.board.state c.self.inside.cursor keeps.log keeps.at keeps.still.rises given.upto (Some batch) (ap option_copied (sym c.in-Some.is) ∙ c.following.ensures.next)
-    ∙ within-is given.upto batch (let low = c.if-version-upto.false in let high = c.requires in omega arith)
+    ∙ within-is given.upto batch (let low = c.if-version-upto.false in let high = c.requires.upto in omega arith)
 
-pub invariant_of-self-2 : goal.invariant_of-self-2
-invariant_of-self-2 g c =
-    let keeps = c.self.invariant in
+pub returns-clause-serves : goal.returns-clause-serves
+returns-clause-serves g c =
+    let keeps = served c.self.view_is c.requires.serves in
     let batch = c.in-Some.batch.now in
     let given = g.N.Story.given in
     let next : next_batch given c.self.inside.board.state ≡ Some batch =
     next-upto given c.self.inside.board.state c.self.inside.cursor keeps.log keeps.at keeps.still.rises given.upto (Some batch) (ap option_copied (sym c.in-Some.is) ∙ c.following.ensures.next)
-    ∙ within-is given.upto batch (let low = c.if-version-upto.false in let high = c.requires in omega arith) in
+    ∙ within-is given.upto batch (let low = c.if-version-upto.false in let high = c.requires.upto in omega arith) in
     keeps-applied given g.N.Story.opening g.N.Story.store g.D.Disk.history
     (record { board = c.self.inside.board; engine = c.self.inside.engine; peer = c.self.inside.peer; cursor = c.self.inside.cursor; flight = c.self.inside.flight })
     keeps c.trace.ensures.stands c.course_goes_on.ensures.state c.course_goes_on.ensures.behind batch next
@@ -71,7 +71,7 @@ invariant_of-self-2 g c =
 pub returns-clause-told : goal.returns-clause-told
 returns-clause-told g c =
     rw (← c.self.view_is)
-    (let keeps = c.self.invariant in
+    (let keeps = served c.self.view_is c.requires.serves in
     let batch = c.in-Some.batch.now in
     sym (ap is_some (event-of (to c.args.upto g.N.Story.given) c.self.inside.board.state (Some batch)
     (next-upto g.N.Story.given c.self.inside.board.state c.self.inside.cursor keeps.log keeps.at keeps.still.rises c.args.upto (Some batch) (ap option_copied (sym c.in-Some.is) ∙ c.following.ensures.next)
@@ -80,7 +80,7 @@ returns-clause-told g c =
 pub returns-clause-acted : goal.returns-clause-acted
 returns-clause-acted g c =
     rw (← c.self.view_is)
-    (let keeps = c.self.invariant in
+    (let keeps = served c.self.view_is c.requires.serves in
     let batch = c.in-Some.batch.now in
     let given = to c.args.upto g.N.Story.given in
     let state = c.self.inside.board.state in
@@ -93,7 +93,7 @@ returns-clause-acted g c =
 pub returns-in-Err-NoMemory-clause-due : goal.returns-in-Err-NoMemory-clause-due
 returns-in-Err-NoMemory-clause-due g c =
     rw (← c.self.view_is)
-    (let keeps = c.self.invariant in
+    (let keeps = served c.self.view_is c.requires.serves in
     let batch = c.in-Some.batch.now in
     ap is_some (event-of (to c.args.upto g.N.Story.given) c.self.inside.board.state (Some batch)
     (next-upto g.N.Story.given c.self.inside.board.state c.self.inside.cursor keeps.log keeps.at keeps.still.rises c.args.upto (Some batch) (ap option_copied (sym c.in-Some.is) ∙ c.following.ensures.next)

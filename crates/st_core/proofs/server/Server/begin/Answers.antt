@@ -6,11 +6,11 @@ use Rattle.st_course.specs.Jobs.{meta_of}
 use Rattle.st_fold.specs.declared.report.Event.TheVariants.{Began}
 use Rattle.st_meta.specs.Stored.{IsState}
 use Rattle.st_model.specs.State.{began, commit_due, commit_version}
-use Rattle.st_core.proofs.Keeping.{keeps-began}
+use Rattle.st_core.proofs.Keeping.{keeps-began, served}
 use Rattle.st_core.proofs.server.Server.begin.Goals as goal
 
-pub invariant_of-self-2 : goal.invariant_of-self-2
-invariant_of-self-2 g c =
+pub returns-clause-serves : goal.returns-clause-serves
+returns-clause-serves g c =
     let given = g.N.Story.given in
     let board = c.self.inside.board in
     let next = c.take_commit.new.self in
@@ -24,5 +24,5 @@ invariant_of-self-2 g c =
     let storable : ForSome next.state.flight (λ flight. IsState (meta_of given flight)) = search rules in
     keeps-began given g.N.Story.opening g.N.Story.store g.D.Disk.history
     (record { board = board; engine = c.self.inside.engine; peer = c.self.inside.peer; cursor = c.self.inside.cursor; flight = c.self.inside.flight })
-    c.self.invariant c.trace.ensures.stands c.course_goes_on.ensures.state c.course_goes_on.ensures.behind
+    (served c.self.view_is c.requires.serves) c.trace.ensures.stands c.course_goes_on.ensures.state c.course_goes_on.ensures.behind
     job due version next traced state in_flight changes storable

@@ -22,15 +22,6 @@ use Rattle.st_queue.specs.declared.frame.Frame.{Frame}
 use Rattle.st_restart.specs.Opened.{Opened, opened, opened_as, opened_of}
 use Rattle.st_run.specs.Opening.{IsForeign}
 
--- files without a frame have no pair
-pub nothing-read : (pairs : Map) (files : Files) → Reads true pairs files → pairs ≡ []
-nothing-read pairs files reads =
-    by_frames reads.mounts.frames (sym (ap is_none_read reads.mounts.read) ∙ reads.fresh_is) reads.mounts.from_empty
-  where
-    by_frames : (frames : List Frame) → is_none_read (Ok frames) ≡ true → replay [] frames ≡ pairs → pairs ≡ []
-    by_frames [] none made = sym made
-    by_frames (frame ∷ frames) none made = absurd (false≢true none)
-
 -- files that can't be mounted open as damaged there
 pub file-unread : (own : List Span) (files : Files) (place : Place) → mount_of files ≡ Err place → opened own files ≡ Err (File place.file place.at)
 file-unread own files place is = of (frames_of files) is

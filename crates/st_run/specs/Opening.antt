@@ -53,13 +53,13 @@ OpensNothing own log store (fault.Foreign part) = IsOkAnd (opened_as own store.f
 OpensNothing own log store fault.Memory = Unit {0}
 OpensNothing own log store why = ⊥
 
--- The store of a disk is open: mounted, and as its files open. Files without a frame have no pair.
+-- The store of a disk is open: mounted, and as its files open. Without a frame it has no pair.
 pub record IsOpenOn {D : Type 0} (told : D → Option History) (before : D) (own : List Span) (log : List Batch) (settings : Settings)
     (found : Opened D) : Type 0 where
   pub mounted : Mounts told before (bounds_of settings) found.engine
   pub opens : OpensTo own log found.engine.store found.opening
   pub files : IfSome (told before) (λ h. opened own (seen h) ≡ Ok (as_opened found.engine.store.fresh found.opening))
-  pub untouched : IfSome (told before) (λ h. found.engine.store.fresh ≡ true → found.engine.store.pairs ≡ [])
+  pub untouched : found.engine.store.fresh ≡ true → found.engine.store.pairs ≡ []
 
 -- Which fault an opening ends in, by what the files open as. The disk's fault carries its count, which rose. Want of memory may
 -- come at any time.

@@ -1,6 +1,7 @@
 //! Opening a store, and a server over it.
 ghost use Rattle.std.specs.Prelude.{◌≡◌, ◌∷◌, [], ◌≤◌, ◌^◌, true, None, IfOk, IfErr};
 ghost use Rattle.st_board.specs.Stands.{IsStill};
+ghost use Rattle.st_core.specs.Server.{Serves};
 ghost use Rattle.st_engine.specs.Engine.{ToldAgrees};
 ghost use Rattle.st_fold.specs.declared.report.Event.TheVariants.{Opened as opened_at};
 ghost use Rattle.st_fold.specs.declared.report.Fault.TheVariants.{Memory};
@@ -58,6 +59,7 @@ fn read<D: Disk>(
     ensures ok { IfOk result (OpensTo own.now log.now engine.now.store) }
     ensures err { IfErr result (OpensNothing own.now log.now engine.now.store) }
     ensures told { ToldAgrees D.history engine.now }
+    ensures untouched { engine.now.store.fresh ≡ true → engine.now.store.pairs ≡ [] }
 {
     engine.is_fresh();
     let opening = match reopen(alloc, engine, own) {
@@ -123,16 +125,17 @@ pub fn begin<N: Story, D: Disk, P: Drop>(
     requires store { N.store ≡ record { fresh = opened.engine.store.fresh; pairs = pairs_of opened.opening.base } }
     requires still { IsStill N.given N.opening }
     requires opens { OpensTo N.given.own N.given.log opened.engine.store opened.opening }
-    requires untouched { opened.engine.store.fresh ≡ true → opened.engine.store.pairs ≡ [] }
     requires sound { opened.engine.broken ≡ None }
     ensures trace { IfOk result (λ server. server.board.trace ≡ opened_at opened.opening.version ∷ []) }
     ensures state { IfOk result (λ server. server.board.state ≡ first_state N.given N.opening) }
     ensures engine { IfOk result (λ server. server.engine ≡ opened.engine) }
     ensures peer { IfOk result (λ server. server.peer ≡ peer) }
+    ensures serves { IfOk result (Serves N.given N.opening N.store D.history) }
     ensures err { IfErr result (λ refused. (refused.disk ≡ opened.engine.disk) × (refused.why ≡ Memory)) }
 {
     stores_open();
     let Opened { engine, opening } = opened;
+    let _ = engine.is_fresh();
     match Board::begin(alloc, opening, settings) {
         Ok(board) => Ok(Server::new(board, engine, peer, Cursor::new(log))),
         Err(AllocError) => Err(NotOpened {

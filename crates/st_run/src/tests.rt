@@ -120,7 +120,6 @@ fn serve<N: Story>(rt: &impl Abort, alloc: Global, opened: Opened<Memory>) -> Re
     requires store { N.store ≡ record { fresh = opened.engine.store.fresh; pairs = pairs_of opened.opening.base } }
     requires all { opened.opening.available ≡ all_keys ∷ [] }
     requires opens { OpensTo (all_keys ∷ []) [] opened.engine.store opened.opening }
-    requires untouched { opened.engine.store.fresh ≡ true → opened.engine.store.pairs ≡ [] }
     requires sound { opened.engine.broken ≡ None }
 {
     let Ok(server) = begin::<N, Memory, ()>(alloc, opened, &SETTINGS, Vec::new(alloc), ()) else {

@@ -21,4 +21,4 @@ new-requires-in-Ok-clause-made g c =
     subst (λ trace. IsMade given g.N.Story.opening g.N.Story.store trace store.pairs) (sym c.in-Ok.ensures.trace)
     (subst (λ o. IsMade given o g.N.Story.store (opened_at opening.version ∷ []) store.pairs) (sym c.requires.named)
     (subst (λ s. IsMade given (named opening) s (opened_at opening.version ∷ []) store.pairs) (sym c.requires.store)
-    (is-made given.own given.log store opening c.requires.opens given c.requires.untouched)))
+    (is-made given.own given.log store opening c.requires.opens given (λ is. c.is_fresh.ensures.untouched (c.is_fresh.ensures.fresh ∙ is)))))

@@ -1,9 +1,8 @@
 use Rattle.std.proofs.Common.{sym, subst}
 use Rattle.st_disk.specs.History.{seen}
-use Rattle.st_engine.specs.Holding.{Reads}
 use Rattle.st_life.specs.Play.{bounds_of}
 use Rattle.st_run.specs.Opening.{FailsToOpen}
-use Rattle.st_run.proofs.Files.{as-before, file-opens, if-told, nothing-read}
+use Rattle.st_run.proofs.Files.{as-before, file-opens, if-told}
 use Rattle.st_run.proofs.Refused.{refused-mount, refused-store}
 use Rattle.st_run.proofs.opening.open.Goals as goal
 
@@ -24,10 +23,7 @@ returns-in-Ok-read-clause-ok g c =
           if-told (g.D.Disk.history c.args.disk)
           (λ h reads. file-opens c.files_open_as_they_mount.ensures c.args.own.now engine.store.fresh engine.store.pairs (seen h) reads _ c.in-Ok-read.ensures.ok.opens)
           reads;
-      untouched =
-          if-told (g.D.Disk.history c.args.disk)
-          (λ h reads is. nothing-read engine.store.pairs (seen h) (subst (λ fresh. Reads fresh engine.store.pairs (seen h)) is reads))
-          reads;
+      untouched = c.read.ensures.untouched;
     }
 
 pub returns-in-Err-read-clause-err : goal.returns-in-Err-read-clause-err

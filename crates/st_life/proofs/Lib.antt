@@ -5,3 +5,6 @@ mod RowParts
 mod Rows
 mod FileRows
 mod CrashRows
+pub mod Versioned
+pub mod Polls
+pub mod Merging

@@ -1,9 +1,15 @@
-//! The lives of a script, played one after the other on two files. It has no bodies but laws.
+//! The lives of a script, played one after the other on two files, and the readers of a life.
 #![tactic(auto)]
 
+mod asked;
+mod copying;
 mod laws;
+mod readers;
+#[cfg(test)]
+mod tests;
 
 pub use laws::{
     commits_are_synced, files_change_by_their_calls, lives_are_played, lives_are_the_only_ones,
     whole_lives_leave_their_commits,
 };
+pub use readers::Readers;

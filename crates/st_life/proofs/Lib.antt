@@ -8,3 +8,8 @@ mod CrashRows
 pub mod Versioned
 pub mod Polls
 pub mod Merging
+mod Telling
+mod Acting
+mod Leading
+mod Closing
+mod Ending

@@ -106,6 +106,22 @@ module _ (given : Given) (reader at : ℕ) (state : State) where
             rw shut.0 (shut_to other place ss shut.1)
       ] refl
 
+  -- nor at all
+  pub stays_shut : (other : ℕ) (sessions : List Session) → has_open other sessions ≡ false → has_open other (poll_first given reader at state sessions) ≡ false
+  stays_shut other [] h = refl
+  stays_shut other (s ∷ ss) h =
+      elim (is_open reader s) as (λ b. is_open reader s ≡ b
+      → has_open other (cond b (poll given at state s ∷ ss) (s ∷ poll_first given reader at state ss)) ≡ false) [
+        | true ↦ λ e.
+            let shut = neither (is_open other s) (list_any (is_open other) ss) h in
+            let of_other : (s.request.reader == other) ≡ false =
+            first_false (s.request.reader == other) (is_none s.answer) shut.0 (of_reader reader s e).1 in
+            rw of_other shut.1
+        | false ↦ λ e.
+            let shut = neither (is_open other s) (list_any (is_open other) ss) h in
+            rw shut.0 (stays_shut other ss shut.1)
+      ] refl
+
   -- each reader's place stays
   pub sought_after : (places : List ℕ) (sessions : List Session) → AreSought places sessions → AreSought places (poll_first given reader at state sessions)
   sought_after places sessions sought = λ other. shut_to other (get_or places other 0) sessions (sought other)

@@ -18,7 +18,8 @@ use Rattle.st_queue.specs.Place.{current, is_unshut, next_file, next_generation,
 use Rattle.st_queue.specs.Writing.{IsSynced, append_calls, enter_calls, frame_bytes, head_calls, header_bytes, put_calls, recycle_calls, shut_calls}
 use Rattle.st_queue.specs.declared.place.Place.{Place}
 use Rattle.st_model.specs.Schedule.{Halt, Progress, ending_by, no_block}
-use Rattle.st_life.specs.Leaving.{calls_of, carried_out, crash_of, files_left, leaves}
+use Rattle.st_engine.specs.Commit.{calls_of}
+use Rattle.st_life.specs.Leaving.{carried_out, crash_of, files_left, leaves}
 use Rattle.st_life.specs.Play.{Start, commit_in_flight}
 
 -- calls that leave nothing unsynced, where nothing was

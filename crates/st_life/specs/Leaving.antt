@@ -1,22 +1,17 @@
 -- What a life that is over leaves of its two files.
-use Rattle.std.specs.Prelude.{ℕ, ◌-◌, List, [], take, Option, Some, None, Result, Ok, Err}
+use Rattle.std.specs.Prelude.{ℕ, ◌-◌, List, [], take, Option, Some, None}
 use Rattle.std.specs.Option.{option_map, option_map_or}
 use Rattle.st_disk.specs.Calls.{made}
 use Rattle.st_disk.specs.History.{Files, FileStates, fresh}
 use Rattle.st_disk.specs.Left.{left}
 use Rattle.st_disk.specs.Recorded.{Call}
-use Rattle.st_engine.specs.Commit.{Done, Refused}
+use Rattle.st_engine.specs.Commit.{calls_of}
 use Rattle.st_engine.specs.Store.{Kept}
 use Rattle.st_fold.specs.declared.plan.LifePlan.{LifePlan}
 use Rattle.st_fold.specs.declared.report.Ending.{Ending}
 use Rattle.st_fold.specs.declared.report.Ending.TheVariants as ending
 use Rattle.st_model.specs.Schedule.{Halt, Progress, blown, ending_by, no_block, past_limit}
 use Rattle.st_life.specs.Play.{Start, commit_in_flight}
-
--- the calls of a commit: all of them, or those before it was refused
-abbrev pub calls_of : Result Done Refused → List Call
-calls_of (Ok done) = done.calls
-calls_of (Err refused) = refused.calls
 
 -- how many more calls to the disk are let through
 abbrev pub passes_left : LifePlan → (calls : ℕ) → ℕ

@@ -1,5 +1,7 @@
 pub mod Play
+pub mod Ended
 pub mod Leaving
 pub mod Lives
 pub mod Readers
+pub mod Running
 pub mod Waiting

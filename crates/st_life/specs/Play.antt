@@ -1,5 +1,5 @@
 -- A life that is played on two files: how it begins, and what its commits come to.
-use Rattle.std.specs.Prelude.{List, [], length, Result, Ok, Err}
+use Rattle.std.specs.Prelude.{Bool, List, [], length, Result, Ok, Err}
 use Rattle.std.specs.Option.{option_map_or}
 use Rattle.std.specs.Result.{result_map_both}
 use Rattle.st_course.specs.Course.{job_after}
@@ -14,24 +14,26 @@ use Rattle.st_fold.specs.declared.report.Damage.TheVariants.{File}
 use Rattle.st_fold.specs.declared.report.Event.{Event}
 use Rattle.st_model.specs.Report.{given_by}
 use Rattle.st_model.specs.Schedule.{Commit, Stage, full, made}
-use Rattle.st_model.specs.State.{Given}
+use Rattle.st_model.specs.State.{Given, Opening}
 use Rattle.st_ops.specs.declared.op.Op.{Op}
 use Rattle.st_queue.specs.Frames.{Damage as Place}
 use Rattle.st_restart.specs.Agreement.{opening_of}
 use Rattle.st_restart.specs.Opened.{Opened, opened}
 
--- A life whose files are mounted: what it is given, what it is to do, what its store opens as, and the store as the mount
--- keeps it.
+-- A life whose files are mounted: what it is given, what it is to do, how its store opens and whether that has no frame, and
+-- the store as the mount keeps it.
 pub record Start : Type 0 where
   pub given : Given
   pub plan : LifePlan
-  pub opened : Opened
+  pub opening : Opening
+  pub fresh : Bool
   pub kept : Kept
 
 -- what a life begins with, by what its store opens as and what the mount keeps, or where the files are damaged
 abbrev pub start_with : Given → LifePlan → Result Opened Damage → Result Kept Place → Result Start Damage
 start_with given plan opens (Ok kept) =
-    result_map_both (λ opened. record { given = given; plan = plan; opened = opened; kept = kept }) (λ damage. damage) opens
+    result_map_both (λ opened. record { given = given; plan = plan; opening = opening_of opened; fresh = opened.fresh; kept = kept })
+    (λ damage. damage) opens
 start_with given plan opens (Err place) = Err (File place.file place.at)
 
 -- the life of a plan on files
@@ -44,7 +46,7 @@ bounds_of settings = record { quota = settings.quota; swap = settings.swap; limi
 
 -- the operations of the commit in flight behind a trace
 abbrev pub ops_in_flight : Start → List Event → List Op
-ops_in_flight life trace = option_map_or (λ job. job.ops) (job_after life.given (opening_of life.opened) life.opened.fresh trace) []
+ops_in_flight life trace = option_map_or (λ job. job.ops) (job_after life.given life.opening life.fresh trace) []
 
 -- what that commit comes to, made to a store
 abbrev pub commit_in_flight : Start → Kept → List Event → Result Done Refused
@@ -59,7 +61,7 @@ as_played (Err refused) = full (length refused.calls) refused.past.length refuse
 abbrev pub stage_of : Start → Stage Kept
 stage_of life = record {
   given = life.given;
-  opening = opening_of life.opened;
+  opening = life.opening;
   plan = life.plan;
   engine = life.kept;
   commit = λ kept trace. as_played (commit_in_flight life kept trace);

@@ -12,7 +12,8 @@ ghost use Rattle.st_model.specs.Report.{requests_of};
 ghost use Rattle.st_model.specs.Schedule.{AreNumbered, Progress, no_block};
 ghost use Rattle.st_ops.specs.declared.op.Op.{Op};
 ghost use Rattle.st_queue.specs.Writing.{IsSynced};
-ghost use Rattle.st_life.specs.Leaving.{calls_of, leaves};
+ghost use Rattle.st_engine.specs.Commit.{calls_of};
+ghost use Rattle.st_life.specs.Leaving.{leaves};
 ghost use Rattle.st_life.specs.Lives.{ArePlayed, IsPlayed};
 ghost use Rattle.st_life.specs.Play.{Start, start_on};
 

@@ -1,14 +1,23 @@
-ghost use Rattle.std.specs.Prelude.{◌≡◌, ◌∷◌, [], None, true, IfOk};
+ghost use Rattle.std.specs.Prelude.{◌≡◌, ◌∷◌, [], None, true, IfOk, IfSome};
 ghost use Rattle.st_board.specs.Stands.{IsStill};
+ghost use Rattle.st_disk.specs.Fuse.{fused_history};
+ghost use Rattle.st_disk.specs.History.{fresh, seen};
+ghost use Rattle.st_disk.specs.Recorded.{history_of};
 ghost use Rattle.st_key.specs.Spans.{all_keys};
+ghost use Rattle.st_life.specs.Play.{bounds_of};
+ghost use Rattle.st_life.specs.Readers.{AreAskable, IsAskable};
+ghost use Rattle.st_life.specs.Running.{LetsThrough};
 ghost use Rattle.st_ptree.specs.Entries.{pairs_of};
 ghost use Rattle.st_run.specs.Opening.{OpensTo};
 
 use super::*;
 use st_board::Story;
-use st_disk::Memory;
-use st_fold::{Act, Damage, Fault, ForeignPart, Settings};
+use st_disk::{Fused, Memory};
+use st_fold::{
+    Act, Answer, Ask, Damage, Ending, Event, Fault, ForeignPart, LifePlan, Request, Settings,
+};
 use st_key::{Key, MetaPart, Range, Ranges};
+use st_life::{LifeEnded, life_plain};
 use st_list::Items;
 use st_mutation::Batch;
 use std::alloc::Global;
@@ -114,28 +123,87 @@ fn stores_are_opened_as_their_files_say(rt: HostRuntime) -> Result<(), Fail> {
     Ok(())
 }
 
-fn serve<N: Story>(rt: &impl Abort, alloc: Global, opened: Opened<Memory>) -> Result<(), Fail>
+// A request of reader 1 for the value of a at version 0.
+fn request(alloc: Global) -> Result<Request, Fail>
+    ensures { IfOk result IsAskable }
+{
+    Ok(Request {
+        number: 1,
+        reader: 1,
+        ask: Ask::Get(Key::read(alloc, b"a")?, 0),
+    })
+}
+
+// A life with this request, which isn't killed.
+fn plan(alloc: Global) -> Result<LifePlan, Fail>
+    ensures askable { IfOk result AreAskable }
+    ensures upto { IfOk result (λ plan. plan.upto ≡ 1) }
+    ensures kill { IfOk result (λ plan. plan.kill ≡ None) }
+{
+    let mut asks = Items::new(alloc);
+    asks.push(request(alloc)?)?;
+    Ok(LifePlan {
+        upto: 1,
+        asks,
+        lasts: Items::new(alloc),
+        dos: Items::new(alloc),
+        cuts: Items::new(alloc),
+        peerfails: Items::new(alloc),
+        kill: None,
+    })
+}
+
+// A life that has nothing to do opens, answers its request and closes.
+fn live<N: Story>(
+    rt: &impl Abort,
+    alloc: Global,
+    plan: &LifePlan,
+    opened: Opened<Fused<Memory>>,
+) -> Result<(), Fail>
     requires given { N.given ≡ record { log = []; upto = 1; own = all_keys ∷ []; settings = SETTINGS } }
     requires named { N.opening ≡ record { version = opened.opening.version; available = opened.opening.available } }
     requires store { N.store ≡ record { fresh = opened.engine.store.fresh; pairs = pairs_of opened.opening.base } }
     requires all { opened.opening.available ≡ all_keys ∷ [] }
     requires opens { OpensTo (all_keys ∷ []) [] opened.engine.store opened.opening }
     requires sound { opened.engine.broken ≡ None }
+    requires askable { AreAskable plan.now }
+    requires upto { plan.now.upto ≡ 1 }
+    requires bounds { opened.engine.bounds ≡ bounds_of SETTINGS }
+    requires synced { IfSome (fused_history (λ m. Some (history_of m)) opened.engine.disk) (λ h. h.now ≡ (fresh (seen h)).now) }
+    requires fuse { IfSome (fused_history (λ m. Some (history_of m)) opened.engine.disk) (LetsThrough plan.now) }
 {
-    let Ok(server) = begin::<N, Memory, ()>(alloc, opened, &SETTINGS, Vec::new(alloc), ()) else {
+    let Ok(server) = begin::<N, Fused<Memory>, ()>(alloc, opened, &SETTINGS, Vec::new(alloc), ())
+    else {
         return Err("a server doesn't begin")?;
     };
     assert_eq!(rt; server.board().durable(), 0);
     assert_eq!(rt; server.due(1), None::<Act>);
+    let LifeEnded { life, disk, fault } = life_plain(alloc, plan, &SETTINGS, server);
+    assert!(rt; fault.is_none());
+    assert_eq!(rt; disk.bytes(0).len(), 0);
+    let Some(life) = life else {
+        return Err("a life doesn't begin")?;
+    };
+    assert_eq!(rt; life.opened, 0);
+    assert_eq!(rt; life.ending, Ending::Closed);
+    assert!(rt; matches!(life.trace.as_slice(), [Event::Opened(0), Event::Closed]));
+    assert_eq!(rt; life.answers.as_slice().len(), 1);
+    for answered in life.answers.as_slice() {
+        assert_eq!(rt; answered.request, 1);
+        assert_eq!(rt; answered.places.as_slice(), [1].as_slice());
+        assert!(rt; matches!(answered.answer, Answer::Absent));
+    }
     Ok(())
 }
 
 #[test]
-fn a_server_begins_on_a_fresh_store(rt: HostRuntime) -> Result<(), Fail> {
+fn a_life_is_played_on_a_fresh_store(rt: HostRuntime) -> Result<(), Fail> {
     let alloc = rt.alloc();
     let own = all_keys(alloc)?;
-    let Ok(opened) = open(alloc, Memory::new(alloc), &SETTINGS, &own, &[]) else {
+    let plan = plan(alloc)?;
+    let disk = Fused::new(Memory::new(alloc), None);
+    let Ok(opened) = open(alloc, disk, &SETTINGS, &own, &[]) else {
         return Err("a fresh store isn't opened")?;
     };
-    serve::<Brand>(&rt, alloc, opened)
+    live::<Brand>(&rt, alloc, &plan, opened)
 }

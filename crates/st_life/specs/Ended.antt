@@ -68,7 +68,7 @@ is_failure (Some (fault.Device faults)) = true
 is_failure (Some fault.Memory) = true
 is_failure why = false
 
--- The fault of a disk carries its count, which rose in the life, or where the disk was restarted behind it.
+-- The fault of a disk carries its count, which rose in the life, or is at least 1 where a restart behind it may have failed.
 abbrev pub IsFaultOf : (before now : ℕ) → Option Fault → Type 0
 IsFaultOf before now None = Unit {0}
 IsFaultOf before now (Some (fault.Device faults)) = (faults ≡ now) × (risen before ≤ now ⊎ 1 ≤ now)

@@ -82,6 +82,13 @@ impl Cursor {
         &self.log
     }
 
+    /// The log, of which nothing more is read. It takes no memory.
+    pub fn into_log(self) -> Vec<Batch>
+        ensures { result.items ≡ self.log }
+    {
+        self.log
+    }
+
     /// Takes the first batch above the last that was taken. None exactly where none is.
     pub fn next(&mut self) -> Option<&Batch>
         ensures* after { sem 𝓛 (follows_so the_row the_row self.entry.ghost_name none (λ _ _. ⊤) (λ new. new ≡ behind_next self.old)) }

@@ -31,10 +31,12 @@ use Rattle.st_fold.specs.declared.report.Life.{Life}
 use Rattle.st_model.specs.Report.{requests_of}
 use Rattle.st_model.specs.Schedule.{Halt, LeadsTo, Progress, Stage, answered_by, begin, blown, ending_by, finish_commit, lets_through, life_of, next, past_limit, unpolled, with_event}
 use Rattle.st_model.specs.State.{Given, Opening, State, first_state}
+use Rattle.st_mutation.specs.declared.batch.Batch.{Batch}
 use Rattle.st_queue.specs.Writing.{IsSynced}
 use Rattle.st_queue.specs.declared.frame.QueueRefusal.TheVariants as queue
 use Rattle.st_restart.specs.After.{OpenBehind}
-use Rattle.st_life.specs.Ended.{IsCutOff, IsFaultOf, IsFaulted, IsLeftBy, IsPlayedOut, IsStopped, OpensBehind, WritesWhole, fault_at, is_failure, start_at}
+use Rattle.st_life.specs.Ended.{IsAboveLeast, IsCutOff, IsFaultOf, IsPlayedOut, OpensBehind, WritesWhole, fault_at, is_failure, start_at}
+use Rattle.st_life.specs.Stopping.{IsFaulted, IsLeftBy, IsStopped}
 use Rattle.st_life.specs.declared.ended.LifeEnded.{LifeEnded}
 use Rattle.st_life.specs.declared.ended.Stopped.{Stopped}
 use Rattle.st_engine.specs.Commit.{calls_of}
@@ -90,7 +92,7 @@ module _ {D : Type 0} (told : D → Option History) where
 
 -- ---- the life
 
-module _ {D P : Type 0} (told : D → Option History) (count : D → ℕ) (start : Start) (h : History)
+module _ {D P : Type 0} (told : D → Option History) (count : D → ℕ) (log : List Batch) (start : Start) (h : History)
     (join : (first second : List Call) (h : History) → made (first ++ second) h ≡ made second (made first h))
     (within : (disk : Fused D) (n : History) → fused_history told disk ≡ Some n → ForSome n.passes (λ k. n.made ≤ k))
     (fuse : LetsThrough start.plan h)
@@ -113,7 +115,7 @@ module _ {D P : Type 0} (told : D → Option History) (count : D → ℕ) (start
   }
 
   abbrev pub ended-of : Stopped D → LifeEnded D
-  ended-of stopped = record { life = Some (made-life stopped.ending); disk = stopped.disk; fault = stopped.fault }
+  ended-of stopped = record { life = Some (made-life stopped.ending); disk = stopped.disk; fault = stopped.fault; log = log }
 
   module _ (stopped : Stopped D) (last : Progress Kept) (leads : LeadsTo stage (begin stage) last) (trace : last.trace ≡ new.server.board.trace)
       (state : last.state ≡ new.server.board.state) (sessions : last.sessions ≡ new.reading.sessions) where
@@ -267,6 +269,9 @@ module _ {D P : Type 0} (told : D → Option History) (count : D → ℕ) (start
           refused : Refused
           refused = past.refused
 
+          under : Below told fused (made refused.calls (made at.calls h))
+          under = below told fused (made refused.calls (made at.calls h)) past.told_is
+
           all-calls : ℕ
           all-calls = last.calls + length refused.calls
 
@@ -299,8 +304,7 @@ module _ {D P : Type 0} (told : D → Option History) (count : D → ℕ) (start
           of : (o : Option History) → told (inner_of fused) ≡ o → IfSome o (λ n. n.now ≡ (fresh (leaves start q)).now)
           of None none = tt
           of (Some n) some =
-              let there = below told fused (made refused.calls (made at.calls h)) past.told_is in
-              ap (λ (m : History). m.now) (same_Some n there.inner (sym some ∙ there.told_is)) ∙ there.now_is ∙ behind ∙ settled ∙ ap (λ (f : Files). (fresh f).now) (sym leaves-is)
+              ap (λ (m : History). m.now) (same_Some n under.inner (sym some ∙ under.told_is)) ∙ under.now_is ∙ behind ∙ settled ∙ ap (λ (f : Files). (fresh f).now) (sym leaves-is)
 
       -- the fuse was blown in its calls
       pub blown-ends : IsCutShort (fused_history told) start h at.calls last fused → ForSome (fused_history told fused) (λ n. n.passes ≡ Some n.made)
@@ -313,6 +317,9 @@ module _ {D P : Type 0} (told : D → Option History) (count : D → ℕ) (start
 
           carried : List Call
           carried = stop.carried
+
+          there : Below told fused cut.now
+          there = below told fused cut.now cut.told_is
 
           of : (kill : Option (ℕ × ℕ)) → start.plan.kill ≡ kill → Outcome
           of None none =
@@ -380,7 +387,6 @@ module _ {D P : Type 0} (told : D → Option History) (count : D → ℕ) (start
 
               behind : WritesWhole told → (n : History) → told (inner_of fused) ≡ Some n → n.now ≡ states_behind start q
               behind whole n is =
-                  let there = below told fused cut.now cut.told_is in
                   let same : n ≡ there.inner = same_Some n there.inner (sym is ∙ there.told_is) in
                   let none-new : cut.now.in_part ≡ 0 = sym there.part_is ∙ ap (λ (m : History). m.in_part) (sym same) ∙ whole (inner_of fused) n is in
                   let none-old : (made at.calls h).in_part ≡ 0 = part-made at.calls h ∙ whole-before whole in
@@ -403,7 +409,7 @@ pub record IsLived {D P : Type 0} (told : D → Option History) (count : D → �
   pub opens : OpensBehind start new.server.board.state (fused_history told fused)
   pub stops : IsStopped told count start.plan fused outcome stopped
 
-module _ {D P : Type 0} (told : D → Option History) (count : D → ℕ) (start : Start) (before : Option History)
+module _ {D P : Type 0} (told : D → Option History) (count : D → ℕ) (log : List Batch) (start : Start) (before : Option History)
     (join : (first second : List Call) (h : History) → made (first ++ second) h ≡ made second (made first h))
     (within : (disk : Fused D) (n : History) → fused_history told disk ≡ Some n → ForSome n.passes (λ k. n.made ≤ k))
     (leaves-image : (disk : D) (n : History) (choice : ℕ) → told disk ≡ Some n → MayLeave n (left choice n.now))
@@ -422,7 +428,7 @@ module _ {D P : Type 0} (told : D → Option History) (count : D → ℕ) (start
   }
 
   abbrev ended-there : LifeEnded D
-  ended-there = record { life = Some life-there; disk = stopped.disk; fault = stopped.fault }
+  ended-there = record { life = Some life-there; disk = stopped.disk; fault = stopped.fault; log = log }
 
   pub lives : IfSome before (λ h. IsPlayedOut told start ended-there life-there ⊎ (is_failure stopped.fault ≡ true) × IsCutOff told start ended-there life-there)
   lives = of before refl lived.fuse lived.begins lived.ok lived.err
@@ -433,26 +439,26 @@ module _ {D P : Type 0} (told : D → Option History) (count : D → ℕ) (start
           → IsPlayedOut told start ended-there life-there ⊎ (is_failure stopped.fault ≡ true) × IsCutOff told start ended-there life-there
       by-outcome h some fuse at (Ok done) stops ok err =
           let there = ok (begin (stage_of start)) at in
-          over-ends told count start h join within fuse leaves-image synced-image part-made part-stopped passes-stopped fused new lived.disk_is lived.opens stopped there.0 there.1 there.2 there.3 stops
+          over-ends told count log start h join within fuse leaves-image synced-image part-made part-stopped passes-stopped fused new lived.disk_is lived.opens stopped there.0 there.1 there.2 there.3 stops
       by-outcome h some fuse at (Err NoMemory) stops ok err =
           let there = err (begin (stage_of start)) at in
-          failure-ends told count start h join within fuse leaves-image synced-image part-made part-stopped passes-stopped fused new lived.disk_is lived.opens stopped there.last there.leads there.at.unhalted
+          failure-ends told count log start h join within fuse leaves-image synced-image part-made part-stopped passes-stopped fused new lived.disk_is lived.opens stopped there.last there.leads there.at.unhalted
           (there.at.trace ∙ sym (ap (λ (r : Reached). r.trace) there.board)) (there.at.state ∙ sym (ap (λ (r : Reached). r.state) there.board)) (there.at.sessions ∙ sym (ap (λ (r : Reading). r.sessions) there.reading))
           fault.Memory refl stops
       by-outcome h some fuse at (Err (Device (queue.DiskFault faults))) stops ok err =
           let there = err (begin (stage_of start)) at in
           ⊎_elim
           (λ spent.
-          blown-ends told count start h join within fuse leaves-image synced-image part-made part-stopped passes-stopped fused new lived.disk_is lived.opens stopped there.last there.leads there.lines there.before there.at
+          blown-ends told count log start h join within fuse leaves-image synced-image part-made part-stopped passes-stopped fused new lived.disk_is lived.opens stopped there.last there.leads there.lines there.before there.at
           there.board there.reading there.by.0 there.by.1 there.by.2 (subst (λ (d : Fused D). IsCutShort (fused_history told) start h there.at.calls there.last d) lived.disk_is there.by.3) spent.0
           (λ whole. let under = below told old.server.engine.disk h (sym lived.told_is ∙ some) in sym under.part_is ∙ whole (inner_of old.server.engine.disk) under.inner under.told_is) spent.1)
           (λ failed.
-          failure-ends told count start h join within fuse leaves-image synced-image part-made part-stopped passes-stopped fused new lived.disk_is lived.opens stopped there.last there.leads there.at.unhalted
+          failure-ends told count log start h join within fuse leaves-image synced-image part-made part-stopped passes-stopped fused new lived.disk_is lived.opens stopped there.last there.leads there.at.unhalted
           (there.at.trace ∙ sym (ap (λ (r : Reached). r.trace) there.board)) (there.at.state ∙ sym (ap (λ (r : Reached). r.state) there.board)) (there.at.sessions ∙ sym (ap (λ (r : Reading). r.sessions) there.reading))
           (fault.Device (count (inner_of fused))) refl failed.1) stops
       by-outcome h some fuse at (Err (Device (queue.Full long limit))) stops ok err =
           let there = err (begin (stage_of start)) at in
-          limit-ends told count start h join within fuse leaves-image synced-image part-made part-stopped passes-stopped fused new lived.disk_is lived.opens stopped there.last there.leads there.lines there.before there.at
+          limit-ends told count log start h join within fuse leaves-image synced-image part-made part-stopped passes-stopped fused new lived.disk_is lived.opens stopped there.last there.leads there.lines there.before there.at
           there.board there.reading there.by.0 there.by.1 there.by.2 long limit (subst (λ (d : Fused D). IsPastLimit (fused_history told) start h there.at.calls there.last d long limit) lived.disk_is there.by.3) stops
       by-outcome h some fuse at (Err (Device (queue.Broken faults))) stops ok err = absurd stops
       by-outcome h some fuse at (Err (Device (queue.Damaged file place))) stops ok err = absurd stops
@@ -485,38 +491,42 @@ begins-at told h given plan opening no_frame server readers start is told_is tra
       unbroken = unbroken;
     })
 
-any-before : (before other now : ℕ) (why : Option Fault) → IsFaultOf other now why → IsFaultOf before now why
-any-before before other now None of = tt
-any-before before other now (Some (fault.Device faults)) of =
-    (of.0, inr (⊎_elim (λ rose. let one : 1 ≤ now = omega (arith, rose) in one) (λ one. one) of.1))
-any-before before other now (Some (fault.Full long limit)) of = tt
-any-before before other now (Some fault.Memory) of = tt
-any-before before other now (Some fault.Words) of = of
-any-before before other now (Some (fault.Script line kind)) of = of
-any-before before other now (Some (fault.Read faults)) of = of
-any-before before other now (Some (fault.Peer faults)) of = of
-any-before before other now (Some (fault.Damaged damage)) of = of
-any-before before other now (Some (fault.Foreign part)) of = of
+-- what rose above the count of a disk is above what each has at least
+above-least : {D : Type 0} → (count : D → ℕ) (old now : D) → risen (count old) ≤ count now → IsAboveLeast count now
+above-least count old now rose least every = let low = every old in omega (arith, low, rose)
+
+any-before : {D : Type 0} → (before : ℕ) (count : D → ℕ) (old now : D) (why : Option Fault) → IsFaultOf (count old) count now why → IsFaultOf before count now why
+any-before before count old now None of = tt
+any-before before count old now (Some (fault.Device faults)) of =
+    (of.0, inr (⊎_elim (above-least count old now) (λ above. above) of.1))
+any-before before count old now (Some (fault.Full long limit)) of = tt
+any-before before count old now (Some fault.Memory) of = tt
+any-before before count old now (Some fault.Words) of = of
+any-before before count old now (Some (fault.Script line kind)) of = of
+any-before before count old now (Some (fault.Read faults)) of = of
+any-before before count old now (Some (fault.Peer faults)) of = of
+any-before before count old now (Some (fault.Damaged damage)) of = of
+any-before before count old now (Some (fault.Foreign part)) of = of
 
 -- the fault with which a life is over
 pub fault-is : {D : Type 0} → (told : D → Option History) (count : D → ℕ) (plan : LifePlan) (old new : Mounted (Fused D)) (outcome : Result Unit DriveRefusal) (fused : Fused D) (stopped : Stopped D)
     → new.disk ≡ fused → EngineBehind (fused_faults count) old new outcome → IsStopped told count plan fused outcome stopped
-    → IsFaultOf (fused_faults count old.disk) (count stopped.disk) stopped.fault
+    → IsFaultOf (fused_faults count old.disk) count stopped.disk stopped.fault
 fault-is {D = D} told count plan old new outcome fused stopped disk engine stops = of outcome engine stops
   where
-    left-is : (kill : Option (ℕ × ℕ)) → IsLeftBy told count kill (inner_of fused) stopped → IsFaultOf (fused_faults count old.disk) (count stopped.disk) stopped.fault
-    left-is None (closed, none, same) = subst (λ (f : Option Fault). IsFaultOf (fused_faults count old.disk) (count stopped.disk) f) (sym none) tt
+    left-is : (kill : Option (ℕ × ℕ)) → IsLeftBy told count kill (inner_of fused) stopped → IsFaultOf (fused_faults count old.disk) count stopped.disk stopped.fault
+    left-is None (closed, none, same) = subst (λ (f : Option Fault). IsFaultOf (fused_faults count old.disk) count stopped.disk f) (sym none) tt
     left-is (Some kill) by =
         ⊎_elim
-        (λ restarted. subst (λ (f : Option Fault). IsFaultOf (fused_faults count old.disk) (count stopped.disk) f) (sym restarted.1) tt)
-        (λ failed. any-before (fused_faults count old.disk) (count (inner_of fused)) (count stopped.disk) stopped.fault failed.3) by
+        (λ restarted. subst (λ (f : Option Fault). IsFaultOf (fused_faults count old.disk) count stopped.disk f) (sym restarted.1) tt)
+        (λ failed. any-before (fused_faults count old.disk) count (inner_of fused) stopped.disk stopped.fault failed.3) by
 
-    faulted-is : (why : Fault) → IsFaulted (Some why) (inner_of fused) stopped → IsFaultOf (fused_faults count old.disk) (count (inner_of fused)) (Some why) → IsFaultOf (fused_faults count old.disk) (count stopped.disk) stopped.fault
+    faulted-is : (why : Fault) → IsFaulted (Some why) (inner_of fused) stopped → IsFaultOf (fused_faults count old.disk) count (inner_of fused) (Some why) → IsFaultOf (fused_faults count old.disk) count stopped.disk stopped.fault
     faulted-is why (faulted, with_fault, same) of =
-        subst (λ (f : Option Fault). IsFaultOf (fused_faults count old.disk) (count stopped.disk) f) (sym with_fault)
-        (subst (λ (d : D). IsFaultOf (fused_faults count old.disk) (count d) (Some why)) (sym same) of)
+        subst (λ (f : Option Fault). IsFaultOf (fused_faults count old.disk) count stopped.disk f) (sym with_fault)
+        (subst (λ (d : D). IsFaultOf (fused_faults count old.disk) count d (Some why)) (sym same) of)
 
-    of : (o : Result Unit DriveRefusal) → EngineBehind (fused_faults count) old new o → IsStopped told count plan fused o stopped → IsFaultOf (fused_faults count old.disk) (count stopped.disk) stopped.fault
+    of : (o : Result Unit DriveRefusal) → EngineBehind (fused_faults count) old new o → IsStopped told count plan fused o stopped → IsFaultOf (fused_faults count old.disk) count stopped.disk stopped.fault
     of (Ok done) engine stops = left-is plan.kill stops
     of (Err NoMemory) engine stops = faulted-is fault.Memory stops tt
     of (Err (Device (queue.DiskFault faults))) engine stops =
@@ -542,7 +552,7 @@ module _ {D P : Type 0} (told : D → Option History) (count : D → ℕ)
     (part-made : (calls : List Call) (h : History) → (made calls h).in_part ≡ h.in_part)
     (part-stopped : (calls : List Call) (old new : History) (stopped : StoppedIn calls old new) → new.in_part ≡ old.in_part → new ≡ made stopped.carried old)
     (passes-stopped : (calls : List Call) (old new : History) → StoppedIn calls old new → new.passes ≡ old.passes)
-    (given : Given) (plan : LifePlan) (opening : Opening) (no_frame : Bool) (server : Serving (Fused D) P) (readers : Reading) (start : Start) (before : Option History)
+    (given : Given) (plan : LifePlan) (opening : Opening) (no_frame : Bool) (server : Serving (Fused D) P) (readers : Reading) (log : List Batch) (start : Start) (before : Option History)
     (new : Playing (Fused D) P) (outcome : Result Unit DriveRefusal) (fused : Fused D) (stopped : Stopped D) (life : Life)
     (told-is : before ≡ fused_history told server.engine.disk) (starts : IfSome before (λ h. start ≡ start_at given plan opening no_frame server h)) (fuse : IfSome before (LetsThrough start.plan))
     (trace : server.board.trace ≡ Opened opening.version ∷ []) (state : server.board.state ≡ first_state given opening) (sessions : readers.sessions ≡ map unpolled (requests_of plan))
@@ -555,8 +565,8 @@ module _ {D P : Type 0} (told : D → Option History) (count : D → ℕ)
     (life-is : record { opened = opening.version; trace = new.server.board.trace ++ last_event stopped.ending; answers = map answered_by new.reading.sessions; ending = stopped.ending } ≡ life) where
   abbrev Is : History → Life → Type 0
   Is h one =
-      IsPlayedOut told (start_at given plan opening no_frame server h) (record { life = Some one; disk = stopped.disk; fault = stopped.fault }) one
-      ⊎ (is_failure stopped.fault ≡ true) × IsCutOff told (start_at given plan opening no_frame server h) (record { life = Some one; disk = stopped.disk; fault = stopped.fault }) one
+      IsPlayedOut told (start_at given plan opening no_frame server h) (record { life = Some one; disk = stopped.disk; fault = stopped.fault; log = log }) one
+      ⊎ (is_failure stopped.fault ≡ true) × IsCutOff told (start_at given plan opening no_frame server h) (record { life = Some one; disk = stopped.disk; fault = stopped.fault; log = log }) one
 
   pub live-ended : IfSome (fused_history told server.engine.disk) (λ h. Is h life)
   live-ended = subst (λ (one : Life). IfSome (fused_history told server.engine.disk) (λ h. Is h one)) life-is
@@ -575,7 +585,7 @@ module _ {D P : Type 0} (told : D → Option History) (count : D → ℕ)
       of (Some h) some is fuse ok err =
           let s = start_at given plan opening no_frame server h in
           let disk = sym told-is ∙ some in
-          lives told count s (Some h) join within leaves-image synced-image part-made part-stopped passes-stopped old new outcome fused stopped (record {
+          lives told count log s (Some h) join within leaves-image synced-image part-made part-stopped passes-stopped old new outcome fused stopped (record {
             told_is = sym some ∙ told-is;
             fuse = subst (λ (s : Start). LetsThrough s.plan h) is fuse;
             begins = begins-at (fused_history told) h given plan opening no_frame server readers s refl disk trace state sessions

@@ -1,25 +1,16 @@
 -- How a life is over, and what it leaves of its disk.
-use Rattle.std.specs.Prelude.{◌≡◌, ◌≤◌, ◌⊎◌, ℕ, Bool, true, false, [], Option, Some, None, unwrap_or, Result, Ok, Err, IfSome}
-use Rattle.std.specs.Option.{ForSome, option_map}
+use Rattle.std.specs.Prelude.{◌≡◌, ◌≤◌, ◌⊎◌, ℕ, Bool, true, false, [], Option, Some, None, unwrap_or, IfSome}
 use Rattle.st_core.specs.Server.{Serving}
-use Rattle.st_core.specs.declared.refusal.DriveRefusal.{DriveRefusal}
-use Rattle.st_core.specs.declared.refusal.DriveRefusal.TheVariants.{Device, NoMemory}
-use Rattle.st_disk.specs.Fuse.{fused_faults, fused_history, inner_of}
 use Rattle.st_disk.specs.History.{Files, History, MayLeave, fresh, risen, seen}
-use Rattle.st_disk.specs.Left.{left}
-use Rattle.st_disk.specs.declared.fused.Fused.{Fused}
 use Rattle.st_engine.specs.Engine.{kept_in}
 use Rattle.st_fold.specs.declared.plan.LifePlan.{LifePlan}
-use Rattle.st_fold.specs.declared.report.Ending.TheVariants as ending
 use Rattle.st_fold.specs.declared.report.Fault.{Fault}
 use Rattle.st_fold.specs.declared.report.Fault.TheVariants as fault
 use Rattle.st_fold.specs.declared.report.Life.{Life}
-use Rattle.st_model.specs.Schedule.{BreaksOff, Halt, Plays, past_limit}
+use Rattle.st_model.specs.Schedule.{BreaksOff, Halt, Plays, blown, no_block, past_limit}
 use Rattle.st_model.specs.State.{Given, Opening, State}
-use Rattle.st_queue.specs.declared.frame.QueueRefusal.TheVariants as queue
 use Rattle.st_restart.specs.After.{OpenBehind}
 use Rattle.st_life.specs.declared.ended.LifeEnded.{LifeEnded}
-use Rattle.st_life.specs.declared.ended.Stopped.{Stopped}
 use Rattle.st_life.specs.Leaving.{leaves}
 use Rattle.st_life.specs.Play.{Start, stage_of}
 
@@ -43,8 +34,10 @@ WritesWhole {D = D} told = (disk : D) (h : History) → told disk ≡ Some h →
 
 -- with which fault a life is over that its schedule ended
 abbrev pub fault_at : Option Halt → Option Fault
+fault_at None = None
+fault_at (Some blown) = None
 fault_at (Some (past_limit long limit)) = Some (fault.Full long limit)
-fault_at halt = None
+fault_at (Some no_block) = Some (fault.Peer 1)
 
 -- what a crash leaves of a disk opens behind a state
 abbrev pub OpensBehind : Start → State → Option History → Type 0
@@ -68,44 +61,17 @@ is_failure (Some (fault.Device faults)) = true
 is_failure (Some fault.Memory) = true
 is_failure why = false
 
--- The fault of a disk carries its count, which rose in the life, or is at least 1 where a restart behind it may have failed.
-abbrev pub IsFaultOf : (before now : ℕ) → Option Fault → Type 0
-IsFaultOf before now None = Unit {0}
-IsFaultOf before now (Some (fault.Device faults)) = (faults ≡ now) × (risen before ≤ now ⊎ 1 ≤ now)
-IsFaultOf before now (Some (fault.Full long limit)) = Unit {0}
-IsFaultOf before now (Some fault.Memory) = Unit {0}
-IsFaultOf before now (Some why) = ⊥
+-- The count of a disk is above each number that no disk of its kind counts fewer faults than.
+abbrev pub IsAboveLeast : {D : Type 0} → (count : D → ℕ) → D → Type 0
+IsAboveLeast {D = D} count disk = (least : ℕ) → ((other : D) → least ≤ count other) → risen least ≤ count disk
 
--- A disk behind the end of a life that nothing failed: as it was, or restarted with the choice of the kill, unless that failed.
-abbrev pub IsLeftBy : {D : Type 0} → (D → Option History) → (count : D → ℕ) → (kill : Option (ℕ × ℕ)) → (disk : D) → Stopped D → Type 0
-IsLeftBy told count None disk stopped = (stopped.ending ≡ ending.Closed) × (stopped.fault ≡ None) × (stopped.disk ≡ disk)
-IsLeftBy told count (Some kill) disk stopped =
-    ((stopped.ending ≡ ending.Killed) × (stopped.fault ≡ None)
-    × (told stopped.disk ≡ option_map (λ h. fresh (left kill.1 h.now)) (told disk)))
-    ⊎ ((stopped.ending ≡ ending.Faulted) × (is_failure stopped.fault ≡ true) × (told stopped.disk ≡ told disk)
-    × IsFaultOf (count disk) (count stopped.disk) stopped.fault)
-
--- the disk was left as it is, with this fault
-abbrev pub IsFaulted : {D : Type 0} → Option Fault → D → Stopped D → Type 0
-IsFaulted why disk stopped = (stopped.ending ≡ ending.Faulted) × (stopped.fault ≡ why) × (stopped.disk ≡ disk)
-
--- what steps over a whole engine are refused with: want of memory, a fault of the disk, or the limit of a file
-abbrev pub IsOfSteps : DriveRefusal → Type 0
-IsOfSteps NoMemory = Unit {0}
-IsOfSteps (Device (queue.DiskFault faults)) = Unit {0}
-IsOfSteps (Device (queue.Full long limit)) = Unit {0}
-IsOfSteps (Device why) = ⊥
-
--- The end of a life whose steps came to this. A fault of the disk is a kill where its fuse is blown: as many calls were carried
--- out then as may.
-abbrev pub IsStopped : {D : Type 0} → (D → Option History) → (count : D → ℕ) → LifePlan → Fused D → Result Unit DriveRefusal → Stopped D → Type 0
-IsStopped told count plan fused (Ok done) stopped = IsLeftBy told count plan.kill (inner_of fused) stopped
-IsStopped told count plan fused (Err (Device (queue.DiskFault faults))) stopped =
-    (ForSome (fused_history told fused) (λ h. h.passes ≡ Some h.made) × IsLeftBy told count plan.kill (inner_of fused) stopped)
-    ⊎ ((fused_faults count fused ≡ count (inner_of fused)) × IsFaulted (Some (fault.Device (count (inner_of fused)))) (inner_of fused) stopped)
-IsStopped told count plan fused (Err (Device (queue.Full long limit))) stopped = IsFaulted (Some (fault.Full long limit)) (inner_of fused) stopped
-IsStopped told count plan fused (Err (Device why)) stopped = ⊥
-IsStopped told count plan fused (Err NoMemory) stopped = IsFaulted (Some fault.Memory) (inner_of fused) stopped
+-- The fault of a disk carries its count, which rose: in the life's calls, or in the restart behind a kill.
+abbrev pub IsFaultOf : {D : Type 0} → (before : ℕ) → (count : D → ℕ) → D → Option Fault → Type 0
+IsFaultOf before count disk None = Unit {0}
+IsFaultOf before count disk (Some (fault.Device faults)) = (faults ≡ count disk) × (risen before ≤ count disk ⊎ IsAboveLeast count disk)
+IsFaultOf before count disk (Some (fault.Full long limit)) = Unit {0}
+IsFaultOf before count disk (Some fault.Memory) = Unit {0}
+IsFaultOf before count disk (Some why) = ⊥
 
 -- which life is over, where the disk told its history as the life began; or none was begun, since memory was wanting
 abbrev pub IsLifeOf : {D : Type 0} → (D → Option History) → (before : Option History) → (History → Start) → LifeEnded D → Option Life → Type 0

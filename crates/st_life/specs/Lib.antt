@@ -1,5 +1,6 @@
 pub mod Play
 pub mod Ended
+pub mod Stopping
 pub mod Leaving
 pub mod Lives
 pub mod Readers

@@ -1,18 +1,22 @@
 //! A life that is over.
 ghost use Rattle.std.specs.Prelude.{Some, IfErr};
-ghost use Rattle.st_life.specs.Ended.{IsFaulted, IsLeftBy, IsOfSteps, IsStopped};
+ghost use Rattle.st_life.specs.Stopping.{IsFaulted, IsLeftBy, IsOfSteps, IsStopped};
 
 use st_core::DriveRefusal;
 use st_disk::{CrashDisk, Disk, DiskRefusal, Fused};
 use st_engine::EngineRefusal;
 use st_fold::{Ending, Fault, Life, LifePlan};
+use st_list::Items;
+use st_mutation::Batch;
 
-/// A life that is over, its disk, and the fault that ended it, if any. There is no life where memory was wanting before it began.
+/// A life that is over, its disk, the fault that ended it, if any, and its log. There is no life where memory was wanting before it
+/// began.
 #[derive(Drop)]
 pub struct LifeEnded<D> {
     pub life: Option<Life>,
     pub disk: D,
     pub fault: Option<Fault>,
+    pub log: Items<Batch>,
 }
 
 /// How a life ended, what it left of its disk, and with which fault.

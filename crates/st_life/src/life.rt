@@ -48,15 +48,26 @@ pub fn life_plain<N: Story, D: CrashDisk, P: Drop>(
     ensures ended { IsLifeOf D.history (fused_history D.history server.engine.disk)
         (start_at N.given plan.now N.opening N.store.fresh server) result result.life }
     ensures unbegun { result.life ≡ None → result.disk ≡ inner_of server.engine.disk }
-    ensures fault { IsFaultOf (fused_faults D.fault_count server.engine.disk) (D.fault_count result.disk) result.fault }
+    ensures fault { IsFaultOf (fused_faults D.fault_count server.engine.disk) D.fault_count result.disk result.fault }
+    ensures log { result.log ≡ N.given.log }
 {
     match Readers::new(alloc, plan, settings) {
         Ok(readers) => live::<N, Brand, D, P>(plan, server, readers),
-        Err(AllocError) => LifeEnded {
-            life: None,
-            disk: server.into_disk().into_inner(),
-            fault: Some(Fault::Memory),
-        },
+        Err(AllocError) => {
+            let Parts {
+                board: _,
+                engine,
+                peer: _,
+                cursor,
+                flight: _,
+            } = server.into_parts();
+            LifeEnded {
+                life: None,
+                disk: engine.dismount().into_inner(),
+                fault: Some(Fault::Memory),
+                log: Items::from_vec(cursor.into_log()),
+            }
+        }
     }
 }
 
@@ -79,7 +90,8 @@ fn live<N: Story, B: Beginning, D: CrashDisk, P: Drop>(
     ensures ended { IsLifeOf D.history (fused_history D.history server.engine.disk)
         (start_at N.given plan.now N.opening N.store.fresh server) result result.life }
     ensures begun { IsSome result.life }
-    ensures fault { IsFaultOf (fused_faults D.fault_count server.engine.disk) (D.fault_count result.disk) result.fault }
+    ensures fault { IsFaultOf (fused_faults D.fault_count server.engine.disk) D.fault_count result.disk result.fault }
+    ensures log { result.log ≡ N.given.log }
 {
     calls_join();
     calls_are_whole();
@@ -95,7 +107,7 @@ fn live<N: Story, B: Beginning, D: CrashDisk, P: Drop>(
         board,
         engine,
         peer: _,
-        cursor: _,
+        cursor,
         flight: _,
     } = server.into_parts();
     let Stopped {
@@ -113,5 +125,6 @@ fn live<N: Story, B: Beginning, D: CrashDisk, P: Drop>(
         life: Some(life),
         disk,
         fault,
+        log: Items::from_vec(cursor.into_log()),
     }
 }

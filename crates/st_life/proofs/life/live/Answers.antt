@@ -38,7 +38,7 @@ returns-clause-ended g c =
     let answers : map answered_by new.reading.sessions ≡ c.from_vec-2.result =
     sym (c.from_vec-2.ensures ∙ c.into_answers.ensures ∙ ap (λ (r : Reading). map answered_by r.sessions) c.into_parts-server.ensures.readers) in
     live-ended told g.D.Disk.fault_count c.calls_join.ensures c.disks_let_through.ensures g.met.D.CrashDisk.leaves_an_image c.a_synced_file_has_one_image.ensures
-    c.calls_are_whole.ensures.made c.calls_are_whole.ensures.stopped c.calls_are_counted.ensures.stopped_passes given plan opening g.N.Story.store.fresh server c.args.readers start before
+    c.calls_are_whole.ensures.made c.calls_are_whole.ensures.stopped c.calls_are_counted.ensures.stopped_passes given plan opening g.N.Story.store.fresh server c.args.readers c.from_vec-3.result start before
     new outcome c.dismount.result stopped (record { opened = c.durable-opened.result; trace = c.from_vec.result; answers = c.from_vec-2.result; ending = stopped.ending })
     c.requires.told c.requires.start c.requires.begun.fuse c.requires.trace c.requires.state (ap (λ (r : Reading). r.sessions) c.requires.readers) c.requires.synced unbroken
     (subst (λ (p : Playing _ _). OnOk outcome (PlaysOut (fused_history told) start before plan.dos p new)) c.new-running.ensures

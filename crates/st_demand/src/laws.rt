@@ -1,0 +1,33 @@
+//! Laws of the definitions.
+ghost use Rattle.std.specs.Prelude.{◌≡◌, List, Some};
+ghost use Rattle.st_fold.specs.declared.report.Event.{Event};
+ghost use Rattle.st_fold.specs.declared.report.Life.{Life};
+ghost use Rattle.st_model.specs.Report.{IsLife};
+ghost use Rattle.st_model.specs.Schedule.{BreaksOff, Plays, Stage};
+ghost use Rattle.st_model.specs.State.{Given, Opening, State};
+ghost use Rattle.st_model.specs.Trace.{state_after};
+ghost use Rattle.st_demand.specs.Serving.{CommitsWithin, HoldsAllKeys, IsServable, IsServablePlan};
+
+/// Each state that a legal trace of such a life reaches holds all keys.
+pub fn served_states_hold_all_keys()
+    ensures { (given : Given) (opening : Opening) (trace : List Event) (state : State) → IsServable given opening
+        → state_after given opening trace ≡ Some state → HoldsAllKeys state }
+{}
+
+/// The life that a written schedule makes, whether it is closed, killed or can't go on, is one that its script demands. So is
+/// one that followed the schedule up to a fault.
+pub fn schedules_are_demanded<E>()
+    ensures played { (stage : Stage E) (life : Life) → IsServable stage.given stage.opening → IsServablePlan stage.plan
+        → CommitsWithin stage → Plays stage life → IsLife stage.given stage.opening stage.plan life }
+    ensures broken { (stage : Stage E) (life : Life) → IsServable stage.given stage.opening → IsServablePlan stage.plan
+        → CommitsWithin stage → BreaksOff stage life → IsLife stage.given stage.opening stage.plan life }
+{}
+
+/// The trace of such a life leads to the state that its schedule ended in.
+pub fn schedules_end_in_their_states<E>()
+    ensures played { (stage : Stage E) (life : Life) → IsServable stage.given stage.opening → IsServablePlan stage.plan
+        → CommitsWithin stage → (plays : Plays stage life) → state_after stage.given stage.opening life.trace ≡ Some plays.0.state }
+    ensures broken { (stage : Stage E) (life : Life) → IsServable stage.given stage.opening → IsServablePlan stage.plan
+        → CommitsWithin stage → (breaks : BreaksOff stage life)
+        → state_after stage.given stage.opening life.trace ≡ Some breaks.0.state }
+{}

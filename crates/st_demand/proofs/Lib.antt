@@ -1,3 +1,9 @@
 mod Holding
 mod Lists
+mod Lives
+mod Plays
+mod Polls
+mod Sound
+mod Steps
 mod Traces
+mod Turns

@@ -1,8 +1,6 @@
 -- Each state that a legal trace of a served life reaches holds all keys.
-use Rattle.std.proofs.Common.{◌≡◌, ℕ, ◌-◌, Bool, true, false, not, ◌&&◌, ◌||◌, ◌==◌, nat_lt, nat_le, cond, List, [], ◌∷◌, ◌++◌, map, filter, length, Option, Some, None, IfSome, option_and_then, refl, sym, ap, ap₂, ◌∙◌, subst}
-use Rattle.std.proofs.lemmas.Bool.{cond_both, and_left}
-use Rattle.std.specs.List.{AllByRecursion, find, flat_map, fold, list_any}
-use Rattle.std.specs.Option.{option_map_or}
+use Rattle.std.proofs.Common.{◌≡◌, ℕ, Bool, true, false, not, ◌&&◌, ◌==◌, nat_lt, nat_le, cond, List, [], ◌∷◌, ◌++◌, map, filter, length, Option, Some, None, IfSome, option_and_then, refl, sym, ap, ap₂, ◌∙◌, subst}
+use Rattle.std.specs.List.{AllByRecursion, fold}
 use Rattle.st_fold.specs.declared.report.Event.{Event}
 use Rattle.st_fold.specs.declared.report.Event.TheVariants.{Opened, Applied, FetchStart, Block, Split, Began, Durable, Watched, Unwatched, Closed, Killed}
 use Rattle.st_fold.specs.Map.{batches_to}
@@ -12,7 +10,7 @@ use Rattle.st_mutation.specs.declared.batch.Batch.{Batch}
 use Rattle.st_model.specs.declared.piece.Piece.{Piece}
 use Rattle.st_model.specs.declared.piece.Phase.TheVariants.{Readable}
 use Rattle.st_model.specs.Pieces.{begins, block_piece, by_phase, change_at, first_pieces, inject, move_piece, rows_in_base, rows_taken, serves, span_of, split_piece, start_piece, stops_at, takes_block, waits_to, wants_fetch}
-use Rattle.st_model.specs.State.{Given, Opening, State, after_batch, apply_next, assigned, available_at, began, commit_due, commit_version, end_commit, ended, first_state, is_registered, move_span, next_batch, released_between, released_in, step}
+use Rattle.st_model.specs.State.{Given, Opening, State, after_batch, apply_next, available_at, began, commit_due, commit_version, end_commit, ended, first_state, is_registered, move_span, next_batch, released_between, released_in, step}
 use Rattle.st_model.specs.Trace.{is_end, run_events, state_after}
 use Rattle.st_demand.specs.Serving.{HoldsAllKeys, IsServable}
 use Rattle.st_demand.proofs.Lists.{all_filter, all_map, found_has, none_of_all}

@@ -1,9 +1,8 @@
 -- The lives that sound runs make.
-use Rattle.std.proofs.Common.{◌≡◌, ◌≢◌, ℕ, ◌<◌, ◌≤◌, Bool, true, false, not, ◌&&◌, ◌||◌, ◌==◌, cond, List, [], ◌∷◌, ◌++◌, map, length, All, Option, Some, None, is_none, IsSome, unwrap_or, refl, sym, ap, ◌∙◌, subst, inl, inr, ◌⊎◌, append-nil}
+use Rattle.std.proofs.Common.{◌≡◌, ◌≢◌, ℕ, ◌<◌, ◌≤◌, Bool, true, false, not, ◌&&◌, ◌||◌, ◌==◌, cond, List, [], ◌∷◌, ◌++◌, map, length, All, Option, Some, None, IsSome, unwrap_or, refl, sym, ap, ◌∙◌, subst, inl, inr, ◌⊎◌, append-nil}
 use Rattle.std.proofs.lemmas.Bool.{and_parts, and_from, or_parts, eq-eqb}
 use Rattle.std.proofs.lemmas.List.Folds.{list_all-append}
 use Rattle.std.specs.List.{AllByRecursion, list_all, list_any}
-use Rattle.st_fold.specs.declared.plan.LifePlan.{LifePlan}
 use Rattle.st_fold.specs.declared.report.Answered.{Answered}
 use Rattle.st_fold.specs.declared.report.Ending.{Ending}
 use Rattle.st_fold.specs.declared.report.Ending.TheVariants as ending
@@ -21,7 +20,7 @@ use Rattle.st_model.specs.State.{Given, Opening, State}
 use Rattle.st_model.specs.Trace.{is_end, state_after, is_at_rest}
 use Rattle.st_model.specs.Session.{Answers, NeverFalls, outcome}
 use Rattle.st_model.specs.Watching.{Demanded, led_to}
-use Rattle.st_model.specs.Report.{AllAnswered, AreAnswered, EndsWithin, Ends, IsLife, all_behind, are_named, blocks, commits, is_cut_short, is_of_watch, may_split, places_of, requests_of, some_names}
+use Rattle.st_model.specs.Report.{AreAnswered, Ends, IsLife, all_behind, blocks, is_cut_short, is_of_watch, may_split, places_of, requests_of, some_names}
 use Rattle.st_model.specs.Schedule.{Progress, Session, Stage, answered_by, is_open, life_of}
 use Rattle.st_demand.specs.Serving.{IsServablePlan}
 use Rattle.st_demand.proofs.Sound.{IsBlown, IsSound, IsSoundSession, is_answered, is_served_event, outcome_of, polls_of}

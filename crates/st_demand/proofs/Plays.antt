@@ -2,7 +2,7 @@
 use Rattle.std.proofs.Common.{◌≡◌, ℕ, zero, suc, ◌-◌, ◌≤◌, Bool, true, false, not, ◌&&◌, cond, List, [], ◌∷◌, ◌++◌, Option, Some, None, is_none, option_map, refl, sym, ap, ◌∙◌, subst, inl, inr, arith, add-sub_of_le}
 use Rattle.std.proofs.lemmas.Bool.{cases_eq}
 use Rattle.std.proofs.lemmas.List.FromFn.{get_or-range_with_len, length-range_with_len}
-use Rattle.std.specs.List.{AllByRecursion, find, list_all, list_any, range_with_len}
+use Rattle.std.specs.List.{AllByRecursion, find, list_any, range_with_len}
 use Rattle.st_fold.specs.Plain.{IsLast, IsOfReader}
 use Rattle.st_mutation.specs.declared.batch.Batch.{Batch}
 use Rattle.st_fold.specs.declared.plan.Act.{Act}
@@ -13,14 +13,14 @@ use Rattle.st_fold.specs.declared.report.Life.{Life}
 use Rattle.st_fold.specs.declared.report.Ending.TheVariants as ending
 use Rattle.st_fold.specs.declared.request.Request.{Request}
 use Rattle.st_model.specs.Report.{IsLife, requests_of}
-use Rattle.st_model.specs.Schedule.{BreaksOff, Halt, LeadsTo, Plays, Progress, Session, Stage, begin, blown, close_on, do_poll, ending_by, has_open, is_open, life_of, next, no_block, past_limit, readers_at_end, walk}
+use Rattle.st_model.specs.Schedule.{BreaksOff, Halt, LeadsTo, Plays, Progress, Session, Stage, begin, blown, close_on, do_poll, ending_by, has_open, is_open, life_of, next, no_block, past_limit, readers_at_end}
 use Rattle.st_model.specs.Pieces.{wants_block, wants_fetch}
 use Rattle.st_model.specs.State.{Given, State, next_batch}
 use Rattle.st_model.specs.Trace.{commit_due, due, is_at_rest, state_after}
 use Rattle.st_demand.specs.Serving.{CommitsWithin, IsServable, IsServablePlan}
 use Rattle.st_demand.proofs.Lists.{all_at, all_left, all_map, all_merged, all_of_map, all_right, none_passes}
 use Rattle.st_demand.proofs.Lives.{all_answered, blown_off, closed, ends_there, faulted, killed_at_rest}
-use Rattle.st_demand.proofs.Sound.{IsSound, Stands, is_answered}
+use Rattle.st_demand.proofs.Sound.{IsSound, Stands}
 use Rattle.st_demand.proofs.Steps.{begins, walk_keeps}
 
 -- ---- the end of a life

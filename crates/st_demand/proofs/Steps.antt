@@ -1,5 +1,5 @@
 -- Served lives begin soundly, and each step of them keeps them sound.
-use Rattle.std.proofs.Common.{◌≡◌, ℕ, zero, suc, ◌+◌, ◌*◌, ◌<◌, ◌≤◌, Bool, true, false, not, ◌&&◌, ◌||◌, ◌==◌, nat_le, cond, List, [], ◌∷◌, ◌++◌, map, filter, length, Option, Some, None, is_none, IfSome, IsSome, option_map, refl, sym, ap, ◌∙◌, subst, inl, inr, arith, zero-le, length-append}
+use Rattle.std.proofs.Common.{◌≡◌, ℕ, zero, suc, ◌+◌, ◌<◌, ◌≤◌, Bool, true, false, ◌&&◌, ◌||◌, ◌==◌, nat_le, cond, List, [], ◌∷◌, ◌++◌, map, filter, length, Option, Some, None, IfSome, IsSome, option_map, refl, sym, ap, ◌∙◌, subst, inl, inr, arith, zero-le, length-append}
 use Rattle.std.proofs.lemmas.Bool.{cond_both, cond-true, and_from, or_from, eq-eqb, leb-true, leb-false, le-leb}
 use Rattle.std.proofs.lemmas.List.Elements.{filter-append}
 use Rattle.std.proofs.lemmas.List.Folds.{list_all-append, list_any-append}
@@ -18,10 +18,10 @@ use Rattle.st_fold.specs.declared.report.Event.TheVariants.{Opened, Applied, Fet
 use Rattle.st_fold.specs.declared.request.Request.{Request}
 use Rattle.st_model.specs.Pieces.{wants_block, wants_fetch}
 use Rattle.st_model.specs.State.{Given, Opening, State, after_batch, apply_next, began, end_commit, ended, first_state, next_batch, step}
-use Rattle.st_model.specs.Trace.{commit_due, commit_version, due, is_end, run_events, state_after}
+use Rattle.st_model.specs.Trace.{commit_due, commit_version, due, is_end, run_events}
 use Rattle.st_model.specs.Session.{NeverFalls}
-use Rattle.st_model.specs.Report.{EndsWithin, commits, is_commit, requests_of}
-use Rattle.st_model.specs.Schedule.{Commit, Halt, Progress, Session, Stage, begin, blown, close_on, do_act, do_poll, event_of, event_of_block, events_of_poll, finish_commit, full, has_open, lets_through, made, make, may_do, next, on_line, past_limit, poll_first, readers_at_end, unpolled, walk, with_event}
+use Rattle.st_model.specs.Report.{commits, is_commit, requests_of}
+use Rattle.st_model.specs.Schedule.{Commit, Halt, Progress, Session, Stage, begin, blown, close_on, do_act, do_poll, event_of_block, finish_commit, full, has_open, lets_through, made, make, may_do, next, on_line, past_limit, poll_first, readers_at_end, unpolled, walk, with_event}
 use Rattle.st_demand.specs.Serving.{CommitsWithin, HoldsAllKeys, IsServable, IsServablePlan, IsWithin}
 use Rattle.st_demand.proofs.Holding.{trace_holds}
 use Rattle.st_demand.proofs.Lists.{all_append, all_map, all_merged}

@@ -1,5 +1,5 @@
 -- Lives of a server that owns all keys, holds all of them from its opening on, and whose log moves none.
-use Rattle.std.specs.Prelude.{◌≡◌, ℕ, ◌≤◌, List, [], ◌∷◌, IfSome}
+use Rattle.std.specs.Prelude.{◌≡◌, ◌≤◌, List, [], ◌∷◌, IfSome}
 use Rattle.std.specs.List.{AllByRecursion}
 use Rattle.st_key.specs.Spans.{all_keys}
 use Rattle.st_fold.specs.declared.plan.LifePlan.{LifePlan}

@@ -4,4 +4,6 @@
 
 mod laws;
 
-pub use laws::{schedules_are_demanded, schedules_end_in_their_states, served_states_hold_all_keys};
+pub use laws::{
+    schedules_are_demanded, schedules_end_in_their_states, served_states_hold_all_keys,
+};

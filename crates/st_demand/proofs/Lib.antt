@@ -3,6 +3,7 @@ mod Lists
 mod Lives
 mod Plays
 mod Polls
+mod Rows
 mod Sound
 mod Steps
 mod Traces

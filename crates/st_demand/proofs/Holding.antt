@@ -1,6 +1,8 @@
 -- Each state that a legal trace of a served life reaches holds all keys.
-use Rattle.std.proofs.Common.{◌≡◌, ℕ, Bool, true, false, not, ◌&&◌, ◌==◌, nat_lt, nat_le, cond, List, [], ◌∷◌, ◌++◌, map, filter, length, Option, Some, None, IfSome, option_and_then, refl, sym, ap, ap₂, ◌∙◌, subst}
+use Rattle.std.proofs.Common.{◌≡◌, ℕ, Bool, true, false, not, ◌&&◌, ◌==◌, nat_lt, nat_le, cond, List, [], ◌∷◌, ◌++◌, map, filter, length, Option, Some, None, IfSome, option_and_then, refl, sym, ap, ap₂, ◌∙◌, subst, inl, inr}
 use Rattle.std.specs.List.{AllByRecursion, fold}
+use Rattle.st_fold.specs.declared.plan.LifePlan.{LifePlan}
+use Rattle.st_fold.specs.declared.plan.Script.{Script}
 use Rattle.st_fold.specs.declared.report.Event.{Event}
 use Rattle.st_fold.specs.declared.report.Event.TheVariants.{Opened, Applied, FetchStart, Block, Split, Began, Durable, Watched, Unwatched, Closed, Killed}
 use Rattle.st_fold.specs.Map.{batches_to}
@@ -11,6 +13,7 @@ use Rattle.st_model.specs.declared.piece.Piece.{Piece}
 use Rattle.st_model.specs.declared.piece.Phase.TheVariants.{Readable}
 use Rattle.st_model.specs.Pieces.{begins, block_piece, by_phase, change_at, first_pieces, inject, move_piece, rows_in_base, rows_taken, serves, span_of, split_piece, start_piece, stops_at, takes_block, waits_to, wants_fetch}
 use Rattle.st_model.specs.State.{Given, Opening, State, after_batch, apply_next, available_at, began, commit_due, commit_version, end_commit, ended, first_state, is_registered, move_span, next_batch, released_between, released_in, step}
+use Rattle.st_model.specs.Report.{MayOpen, given_by}
 use Rattle.st_model.specs.Trace.{is_end, run_events, state_after}
 use Rattle.st_demand.specs.Serving.{HoldsAllKeys, IsServable}
 use Rattle.st_demand.proofs.Lists.{all_filter, all_map, found_has, none_of_all}
@@ -168,3 +171,24 @@ module _ (given : Given) (opening : Opening) (servable : IsServable given openin
       by_version true e = run_holds events (first_state given opening) state opens_with_all e
       by_version false e = cc
   trace_holds trace state e = cc
+
+-- ---- the next life
+
+pub holds_again : (script : Script) (plan later : LifePlan) (opening next : Opening) (trace : List Event)
+    → IsServable (given_by script plan) opening → MayOpen (state_after (given_by script plan) opening trace) next
+    → IsServable (given_by script later) next
+holds_again script plan later opening next trace servable may = record {
+  own = servable.own;
+  no_moves = servable.no_moves;
+  available = by_state (state_after (given_by script plan) opening trace) refl may;
+}
+  where
+    by_flight : (o : Option Opening) → o ≡ Some next → IfSome o (λ flight. flight.available ≡ all_keys ∷ []) → next.available ≡ all_keys ∷ []
+    by_flight None e all = cc
+    by_flight (Some flight) e all = let same : flight ≡ next = cc in subst (λ one. one.available ≡ all_keys ∷ []) same all
+
+    by_state : (o : Option State) → state_after (given_by script plan) opening trace ≡ o → MayOpen o next → next.available ≡ all_keys ∷ []
+    by_state None _ opens = absurd opens
+    by_state (Some state) after opens =
+        let holds = trace_holds (given_by script plan) opening servable trace state after in
+        (elim opens [ inl durable ↦ durable.1 ∙ holds.available | inr flies ↦ by_flight state.flight flies holds.flown ])

@@ -1,8 +1,10 @@
 //! Laws of the definitions.
 ghost use Rattle.std.specs.Prelude.{◌≡◌, List, Some};
+ghost use Rattle.st_fold.specs.declared.plan.LifePlan.{LifePlan};
+ghost use Rattle.st_fold.specs.declared.plan.Script.{Script};
 ghost use Rattle.st_fold.specs.declared.report.Event.{Event};
 ghost use Rattle.st_fold.specs.declared.report.Life.{Life};
-ghost use Rattle.st_model.specs.Report.{IsLife};
+ghost use Rattle.st_model.specs.Report.{IsLife, MayOpen, given_by};
 ghost use Rattle.st_model.specs.Schedule.{BreaksOff, Plays, Stage};
 ghost use Rattle.st_model.specs.State.{Given, Opening, State};
 ghost use Rattle.st_model.specs.Trace.{state_after};
@@ -12,6 +14,13 @@ ghost use Rattle.st_demand.specs.Serving.{CommitsWithin, HoldsAllKeys, IsServabl
 pub fn served_states_hold_all_keys()
     ensures { (given : Given) (opening : Opening) (trace : List Event) (state : State) → IsServable given opening
         → state_after given opening trace ≡ Some state → HoldsAllKeys state }
+{}
+
+/// A life that opens behind such a life, with what was durable at its end or was in flight, is such a life again.
+pub fn lives_behind_served_ones_are_served()
+    ensures { (script : Script) (plan later : LifePlan) (opening next : Opening) (trace : List Event)
+        → IsServable (given_by script plan) opening → MayOpen (state_after (given_by script plan) opening trace) next
+        → IsServable (given_by script later) next }
 {}
 
 /// The life that a written schedule makes, whether it is closed, killed or can't go on, is one that its script demands. So is

@@ -5,5 +5,6 @@
 mod laws;
 
 pub use laws::{
-    schedules_are_demanded, schedules_end_in_their_states, served_states_hold_all_keys,
+    lives_behind_served_ones_are_served, schedules_are_demanded, schedules_end_in_their_states,
+    served_states_hold_all_keys,
 };

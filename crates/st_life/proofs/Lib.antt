@@ -1,5 +1,6 @@
 mod Played
 mod Synced
+mod Demanded
 mod Runs
 mod RowParts
 mod Rows

@@ -49,7 +49,7 @@ same-last stage last other steps steps_too leads over leads_too over_too =
 
 -- ---- one life
 
-abbrev ok-of : {T E : Type 0} → T → Result T E → T
+abbrev pub ok-of : {T E : Type 0} → T → Result T E → T
 ok-of other (Ok one) = one
 ok-of other (Err why) = other
 
@@ -103,7 +103,7 @@ given-of own plan (Ok one) kept start is = (ap (λ r. (ok-of start r).given) (sy
 given-of own plan (Err why) kept start is = cc (is)
 
 -- a life on files is of its script and its plan
-start-given : (given : Given) (plan : LifePlan) (opens : Result Opened Damage) (mount : Result Kept Place) (start : Start)
+pub start-given : (given : Given) (plan : LifePlan) (opens : Result Opened Damage) (mount : Result Kept Place) (start : Start)
     → start_with given plan opens mount ≡ Ok start → (start.given ≡ given) × (start.plan ≡ plan)
 start-given given plan opens (Ok kept) start is = given-of given plan opens kept start is
 start-given given plan opens (Err place) start is = cc (is)

@@ -1,10 +1,11 @@
 -- The lives of a script, one after the other on two files.
 use Rattle.std.specs.Prelude.{◌≡◌, ◌⊎◌, true, List, [], ◌∷◌, Ok}
+use Rattle.st_demand.specs.Serving.{IsServable, IsServablePlan}
 use Rattle.st_disk.specs.History.{Files}
 use Rattle.st_fold.specs.declared.plan.LifePlan.{LifePlan}
 use Rattle.st_fold.specs.declared.plan.Script.{Script}
 use Rattle.st_fold.specs.declared.report.Life.{Life}
-use Rattle.st_model.specs.Report.{is_faulted}
+use Rattle.st_model.specs.Report.{given_by, is_faulted}
 use Rattle.st_model.specs.Schedule.{BreaksOff, Plays}
 use Rattle.st_life.specs.Leaving.{leaves}
 use Rattle.st_life.specs.Play.{Start, stage_of, start_on}
@@ -39,3 +40,10 @@ FollowPlans script (plan ∷ plans) before (life ∷ lives) =
     ((between : Files) × IsPlayed script plan before life between × (is_faulted life.ending ≡ true → lives ≡ [])
     × FollowPlans script plans between lives)
     ⊎ (IsBrokenOff script plan before life × (lives ≡ []))
+
+-- A life on files of a server that owns all keys, holds them all at its opening and moves none, and that watches nothing.
+pub record IsServed (script : Script) (plan : LifePlan) (start : Start) : Type 0 where
+  pub is_given : start.given ≡ given_by script plan
+  pub is_to_do : start.plan ≡ plan
+  pub servable : IsServable (given_by script plan) start.opening
+  pub servable_plan : IsServablePlan plan

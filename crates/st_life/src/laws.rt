@@ -8,14 +8,17 @@ ghost use Rattle.st_engine.specs.Store.{Bounds, Kept};
 ghost use Rattle.st_fold.specs.declared.plan.LifePlan.{LifePlan};
 ghost use Rattle.st_fold.specs.declared.plan.Script.{Script};
 ghost use Rattle.st_fold.specs.declared.report.Life.{Life};
-ghost use Rattle.st_model.specs.Report.{requests_of};
-ghost use Rattle.st_model.specs.Schedule.{AreNumbered, Progress, no_block};
+ghost use Rattle.st_demand.specs.Serving.{IsServablePlan};
+ghost use Rattle.st_model.specs.Report.{IsLife, MayOpen, given_by, requests_of};
+ghost use Rattle.st_model.specs.Schedule.{AreNumbered, BreaksOff, Plays, Progress, no_block};
+ghost use Rattle.st_model.specs.Trace.{state_after};
+ghost use Rattle.st_restart.specs.After.{OpenBehind};
 ghost use Rattle.st_ops.specs.declared.op.Op.{Op};
 ghost use Rattle.st_queue.specs.Writing.{IsSynced};
 ghost use Rattle.st_engine.specs.Commit.{calls_of};
 ghost use Rattle.st_life.specs.Leaving.{leaves};
-ghost use Rattle.st_life.specs.Lives.{ArePlayed, IsPlayed};
-ghost use Rattle.st_life.specs.Play.{Start, start_on};
+ghost use Rattle.st_life.specs.Lives.{ArePlayed, IsPlayed, IsServed};
+ghost use Rattle.st_life.specs.Play.{Start, stage_of, start_on};
 
 use std::marker::Model;
 
@@ -73,3 +76,30 @@ pub fn whole_lives_leave_their_commits()
     ensures unserved { (start : Start) (last : Progress Kept) → last.halt ≡ Some no_block
         → leaves start last ≡ last.engine.files }
 {}
+
+/// Lives on two files, of a server that owns all keys, holds them all at its opening and moves none, where nothing is watched:
+/// each that is played, whether it is closed, killed or can't go on, is one that its script demands, and so is each that is
+/// broken off by a fault. Files that open behind its last state open as its script lets the next life open, and that is again
+/// such a life.
+pub fn lives_are_demanded()
+    ensures played { (script : Script) (plan : LifePlan) (start : Start) (life : Life) → IsServed script plan start
+        → Plays (stage_of start) life → IsLife (given_by script plan) start.opening plan life }
+    ensures broken { (script : Script) (plan : LifePlan) (start : Start) (life : Life) → IsServed script plan start
+        → BreaksOff (stage_of start) life → IsLife (given_by script plan) start.opening plan life }
+    ensures follows_played { (script : Script) (plan next : LifePlan) (start later : Start) (life : Life) (files : Files)
+        → IsServed script plan start → (plays : Plays (stage_of start) life) → OpenBehind start.given plays.0.state files
+        → start_on script next files ≡ Ok later
+        → MayOpen (state_after (given_by script plan) start.opening life.trace) later.opening }
+    ensures follows_broken { (script : Script) (plan next : LifePlan) (start later : Start) (life : Life) (files : Files)
+        → IsServed script plan start → (breaks : BreaksOff (stage_of start) life) → OpenBehind start.given breaks.0.state files
+        → start_on script next files ≡ Ok later
+        → MayOpen (state_after (given_by script plan) start.opening life.trace) later.opening }
+    ensures served { (script : Script) (plan next : LifePlan) (start later : Start) (life : Life) (files : Files)
+        → IsServed script plan start → IsServablePlan next → start_on script next files ≡ Ok later
+        → MayOpen (state_after (given_by script plan) start.opening life.trace) later.opening → IsServed script next later }
+{
+    st_demand::lives_behind_served_ones_are_served();
+    st_demand::schedules_are_demanded::<Keeping>();
+    st_demand::schedules_end_in_their_states::<Keeping>();
+    st_engine::commits_make_four_to_ten_calls();
+}

@@ -1,5 +1,5 @@
 -- Served lives are demanded, and each that follows one is served again.
-use Rattle.std.proofs.Common.{◌≡◌, ℕ, ◌≤◌, List, length, Option, Some, Result, Ok, Err, IfOk, IfErr, refl, sym, ap, ◌∙◌, subst, arith}
+use Rattle.std.proofs.Common.{◌≡◌, ◌≤◌, List, length, Some, Result, Ok, Err, IfOk, IfErr, sym, ap, ◌∙◌, subst, arith}
 use Rattle.std.specs.Result.{IsOkAnd}
 use Rattle.st_demand.specs.Serving.{CommitsWithin, IsServable, IsServablePlan, IsWithin}
 use Rattle.st_disk.specs.History.{Files}
@@ -10,7 +10,7 @@ use Rattle.st_fold.specs.declared.plan.Script.{Script}
 use Rattle.st_fold.specs.declared.report.Damage.{Damage}
 use Rattle.st_fold.specs.declared.report.Life.{Life}
 use Rattle.st_model.specs.Report.{IsLife, MayOpen, given_by}
-use Rattle.st_model.specs.State.{Given, Opening, State}
+use Rattle.st_model.specs.State.{Given, State}
 use Rattle.st_model.specs.Trace.{state_after}
 use Rattle.st_ops.specs.declared.op.Op.{Op}
 use Rattle.st_queue.specs.Frames.{Damage as Place}

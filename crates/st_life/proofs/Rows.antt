@@ -1,6 +1,7 @@
 -- Worked scripts, their lives and the files that they leave, computed from the definitions alone.
 use Rattle.std.proofs.Common.{◌≡◌, ℕ, List, [], ◌∷◌, ◌++◌, map, take, Option, Some, refl}
 use Rattle.std.specs.Option.{option_map}
+use Rattle.std.specs.Result.{IsOkAnd}
 use Rattle.rand_core.specs.Pcg32Seed.{pcg32_seed}
 use Rattle.rand_core.specs.Steps.{u32_at, word_bytes}
 use Rattle.st_fold.specs.declared.plan.LifePlan.{LifePlan}
@@ -14,7 +15,8 @@ use Rattle.st_model.specs.Schedule.{readers_at_end}
 use Rattle.st_queue.specs.Writing.{frame_bytes, header_bytes}
 use Rattle.st_life.proofs.RowParts.{answered, apply, empty, flush, gets, life, life_to, poll, script_of, sets, with_window}
 use Rattle.st_life.proofs.Runs.{Run, are-played, lives_of, run}
-use Rattle.st_life.specs.Lives.{ArePlayed}
+use Rattle.st_life.specs.Lives.{ArePlayed, IsServed}
+use Rattle.st_life.specs.Play.{start_on}
 
 -- ---- a window that moves, over two lives
 
@@ -116,6 +118,26 @@ first_commit_synced : map (λ calls. lives_of (killed calls 0)) ten
     ∷ Some (committed ∷ from_1 ∷ []) ∷ []
 unfolding readers_at_end frame_bytes header_bytes
 first_commit_synced = refl
+
+-- both lives are served ones
+dying_is_served : IsOkAnd (start_on (first_commit 3 0) (dying 3 0) ([], [])) (IsServed (first_commit 3 0) (dying 3 0))
+unfolding frame_bytes header_bytes
+dying_is_served = record {
+  is_given = refl;
+  is_to_do = refl;
+  servable = record { own = refl; no_moves = (refl, (refl, tt)); available = refl };
+  servable_plan = record { asks = tt; lasts = tt; dos = (tt, (tt, tt)); no_fails = refl };
+}
+
+next_is_served : IsOkAnd (start_on (first_commit 10 0) asking_last (run 16 (first_commit 10 0) (dying 10 0 ∷ []) ([], [])).behind)
+    (IsServed (first_commit 10 0) asking_last)
+unfolding readers_at_end frame_bytes header_bytes
+next_is_served = record {
+  is_given = refl;
+  is_to_do = refl;
+  servable = record { own = refl; no_moves = (refl, (refl, tt)); available = refl };
+  servable_plan = record { asks = tt; lasts = (record { last = refl; versioned = refl }, tt); dos = tt; no_fails = refl };
+}
 
 -- or all that was written
 first_commit_written : map (λ calls. lives_of (killed calls 1)) ten

@@ -48,6 +48,11 @@ module _ (script : Script) (plan : LifePlan) (start : Start) (served : IsServed 
       subst (λ to_do. IsLife (given_by script plan) start.opening to_do life) served.is_to_do
       (subst (λ given. IsLife given start.opening start.plan life) served.is_given is_life)
 
+  -- the trace leads to the state
+  pub ends-in : (life : Life) (state : State) → state_after start.given start.opening life.trace ≡ Some state
+      → state_after (given_by script plan) start.opening life.trace ≡ Some state
+  ends-in life state after = sym (ap (λ given. state_after given start.opening life.trace) served.is_given) ∙ after
+
   -- what files open as, a life opens with that begins on them
   opens-so : (next : LifePlan) (later : Start) (state : State) (opens : Result Opened Damage) (mount : Result Kept Place)
       → IsOkAnd opens (λ one. MayOpen (Some state) (opening_of one) × Agrees start.given.own start.given.log one)

@@ -86,6 +86,12 @@ pub fn lives_are_demanded()
         → Plays (stage_of start) life → IsLife (given_by script plan) start.opening plan life }
     ensures broken { (script : Script) (plan : LifePlan) (start : Start) (life : Life) → IsServed script plan start
         → BreaksOff (stage_of start) life → IsLife (given_by script plan) start.opening plan life }
+    ensures state_played { (script : Script) (plan : LifePlan) (start : Start) (life : Life) → IsServed script plan start
+        → (plays : Plays (stage_of start) life)
+        → state_after (given_by script plan) start.opening life.trace ≡ Some plays.0.state }
+    ensures state_broken { (script : Script) (plan : LifePlan) (start : Start) (life : Life) → IsServed script plan start
+        → (breaks : BreaksOff (stage_of start) life)
+        → state_after (given_by script plan) start.opening life.trace ≡ Some breaks.0.state }
     ensures follows_played { (script : Script) (plan next : LifePlan) (start later : Start) (life : Life) (files : Files)
         → IsServed script plan start → (plays : Plays (stage_of start) life) → OpenBehind start.given plays.0.state files
         → start_on script next files ≡ Ok later

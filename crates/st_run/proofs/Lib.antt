@@ -1,3 +1,7 @@
 mod Files
 mod Servers
 mod Refused
+mod Running
+mod Living
+mod Replaying
+mod Demanding

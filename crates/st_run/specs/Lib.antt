@@ -1,1 +1,4 @@
 pub mod Opening
+pub mod Lived
+pub mod Ran
+pub mod Replayed

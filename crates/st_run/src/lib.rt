@@ -1,6 +1,9 @@
 //! Lives one after the other on one disk.
 #![tactic(auto)]
 
+mod counted;
+mod life;
+mod lives;
 mod opening;
 #[cfg(test)]
 mod tests;

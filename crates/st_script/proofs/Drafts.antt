@@ -1,13 +1,13 @@
 -- The last item of a list, and what more words than a line may have change.
-use Rattle.std.proofs.Common.{◌≡◌, ℕ, ◌-◌, ◌<◌, Bool, ◌||◌, List, [], ◌∷◌, length, map, find, cond, true, false, set, get_or, take, option_map, Option, Some, None, slice_get, suc, refl, sym, ap, ◌∙◌, arith}
+use Rattle.std.proofs.Common.{◌≡◌, ℕ, ◌-◌, ◌<◌, Bool, ◌||◌, ◌==◌, List, [], ◌∷◌, length, map, find, cond, true, false, set, get_or, take, option_map, Option, Some, None, slice_get, suc, refl, sym, ap, ◌∙◌, arith}
 use Rattle.std.specs.List.{list_any}
-use Rattle.std.specs.Option.{option_map_or}
-use Rattle.st_mutation.specs.declared.batch.Batch.{Batch}
+use Rattle.std.proofs.lemmas.Bool.{ne_eqb}
 use Rattle.st_script.specs.declared.form.Form.{Form}
 use Rattle.st_script.specs.declared.form.Form.TheVariants as form
 use Rattle.st_script.specs.declared.form.Place.{Place}
 use Rattle.st_script.specs.declared.form.Place.TheVariants as place
-use Rattle.st_script.specs.Draft.{Drafted, on_last, last_version}
+use Rattle.st_script.specs.Draft.{Drafted, on_last, last_of}
+use Rattle.st_script.specs.Words.{is_empty}
 use Rattle.st_script.specs.Lines.{form_of}
 use Rattle.st_script.specs.Reading.{judge, judge_known}
 
@@ -36,12 +36,14 @@ pub on_last-none : {A : Type 0} (f : A → A) (xs : List A) (n : ℕ) → n ≡ 
 on_last-none f [] n size none = refl
 on_last-none f (x ∷ xs) n size none = absurd (none (omega arith))
 
-pub last_version-last : (log : List Batch) (last : Option Batch) → last ≡ slice_get log (length log - 1) → option_map_or (λ (batch : Batch). batch.version) last 0 ≡ last_version log
-last_version-last [] last e = rw e refl
-last_version-last (batch ∷ []) last e = rw e refl
-last_version-last (batch ∷ next ∷ log) last e =
-    let at : length (batch ∷ next ∷ log) - 1 ≡ suc (length (next ∷ log) - 1) = omega arith in
-    last_version-last (next ∷ log) last (rw at at e)
+pub last_of-last : {A : Type 0} (xs : List A) → slice_get xs (length xs - 1) ≡ last_of xs
+last_of-last [] = refl
+last_of-last (x ∷ []) = refl
+last_of-last (x ∷ y ∷ xs) = let at : length (x ∷ y ∷ xs) - 1 ≡ suc (length (y ∷ xs) - 1) = omega arith in rw at (last_of-last (y ∷ xs))
+
+pub is_empty-length : {A : Type 0} (xs : List A) → (length xs == 0) ≡ is_empty xs
+is_empty-length [] = refl
+is_empty-length (x ∷ xs) = ne_eqb (length (x ∷ xs)) 0 (λ e. omega arith)
 
 -- two lists of more words than a line may have, with the same first ones
 module _ (a b c d e f g h i j : List ℕ) (more others : List (List ℕ)) where
@@ -51,7 +53,7 @@ module _ (a b c d e f g h i j : List ℕ) (more others : List (List ℕ)) where
   beyond : (draft : Drafted) (known : Option Form) → judge_known draft known a (after_first_word more) ≡ judge_known draft known a (after_first_word others)
   beyond draft None = refl
   beyond draft (Some form.Storage) = refl
-  beyond draft (Some form.Patience) = refl
+  beyond draft (Some (form.Option setting)) = refl
   beyond draft (Some form.Own) = refl
   beyond draft (Some form.Log) = refl
   beyond draft (Some form.Batch) = refl
@@ -63,6 +65,7 @@ module _ (a b c d e f g h i j : List ℕ) (more others : List (List ℕ)) where
   beyond draft (Some form.Last) = refl
   beyond draft (Some form.Do) = refl
   beyond draft (Some form.Close) = refl
+  beyond draft (Some form.Kill) = refl
   beyond draft (Some form.End) = refl
 
   judge_beyond : (draft : Drafted) → judge draft (a ∷ after_first_word more) ≡ judge draft (a ∷ after_first_word others)

@@ -9,7 +9,8 @@ use Rattle.st_fold.specs.declared.plan.Do.TheVariants as step
 use Rattle.st_fold.specs.declared.plan.Kind.TheVariants as kind
 use Rattle.st_fold.specs.declared.request.Ask.TheVariants.{Get, Rows, Select}
 use Rattle.st_script.specs.Draft.{all_keys}
-use Rattle.st_script.specs.Reading.{default_settings, script_of}
+use Rattle.st_script.specs.Options.{default_settings}
+use Rattle.st_script.specs.Reading.{script_of}
 
 clears_and_selectors : script_of (codes "storage 1\nown - ff\nlog\nbatch 1\nset 61 31\nset 62 32\nset 63 33\nbatch 2\nclear 61 63\nbatch 3\nset 62 39\nlife 3\nask 1 get 61 @2\nask 1 range - ff 1 1000 rev @3\nask 1 key 61 eq 1 - ff @3\nask 1 key 62 ne 0 - ff @3\nask 1 key 63 eq -1 - ff @3\nlast get 63 @3\ndo apply 3\nclose\nend\n") ≡ Ok (record {
   settings = default_settings;

@@ -53,6 +53,14 @@ offset_field word =
 abbrev pub max_version : ℕ
 max_version = 9223372036854775807
 
+-- the greatest number
+abbrev pub max_number : ℕ
+max_number = 18446744073709551615
+
+-- how many calls of a life's disk may pass before a kill
+abbrev pub max_calls : ℕ
+max_calls = 9223372036854775807
+
 -- a version after `@`
 abbrev pub version_field : List ℕ → Result ℕ Kind
 version_field word = number_field 0 max_version (after_first word)

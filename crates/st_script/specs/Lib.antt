@@ -1,6 +1,7 @@
 pub mod Words
 pub mod Fields
 pub mod Requests
+pub mod Options
 pub mod Lines
 pub mod Draft
 pub mod Outcome

@@ -2,7 +2,7 @@
 use Rattle.std.specs.Prelude.{ℕ, List, [], ◌∷◌, find, option_map, Option, Some, None, Result, Ok, Err, codes, if◌then◌else◌}
 use Rattle.st_atomic.specs.declared.AtomicOp.TheVariants.{Add, And, Or, Xor, Max, Min, ByteMin, ByteMax, AppendIfFits, CompareAndClear}
 use Rattle.st_mutation.specs.declared.batch.Mutation.TheVariants.{Set, Clear, Atomic}
-use Rattle.st_fold.specs.declared.plan.Act.TheVariants.{Apply}
+use Rattle.st_fold.specs.declared.plan.Act.TheVariants.{Apply, Began, Durable}
 use Rattle.st_fold.specs.declared.plan.Do.{Do}
 use Rattle.st_fold.specs.declared.plan.Do.TheVariants as step
 use Rattle.st_fold.specs.declared.plan.Kind.{Kind}
@@ -11,15 +11,18 @@ use Rattle.st_fold.specs.declared.request.Ask.{Ask}
 use Rattle.st_mutation.specs.declared.batch.Mutation.{Mutation}
 use Rattle.st_script.specs.declared.form.Form.{Form}
 use Rattle.st_script.specs.declared.form.Form.TheVariants as form
-use Rattle.st_script.specs.Fields.{is_word, number_field, max_version, bytes_field, key_field, value_field, range_of, ◌>>=◌}
+use Rattle.st_script.specs.declared.options.Setting.{Setting}
+use Rattle.st_script.specs.declared.options.Setting.TheVariants as setting
+use Rattle.st_script.specs.Fields.{is_word, number_field, max_number, max_version, max_calls, bytes_field, key_field, value_field, range_of, ◌>>=◌}
+use Rattle.st_script.specs.Options.{least_of, most_of}
 use Rattle.st_script.specs.Requests.{is_request, request_of}
 
 -- what a line says
 pub data Line : Type 0 where
   -- the first line
   head : Line
-  -- a request whose version has not come after this number of polls is refused
-  patience_of : ℕ → Line
+  -- an option sets this number
+  sets : Setting → ℕ → Line
   -- the server owns all keys
   owns_all : Line
   log_begins : Line
@@ -33,19 +36,25 @@ pub data Line : Type 0 where
   -- a step, so often
   does : Do → ℕ → Line
   closes : Line
+  -- the life is killed after so many calls of its disk, and this number chooses what the crash leaves
+  kills : ℕ → ℕ → Line
   ends : Line
 
 -- the forms, each by its first word
 abbrev pub forms : List (List ℕ × Form)
 forms =
     (codes "set", form.Set) ∷ (codes "batch", form.Batch) ∷ (codes "storage", form.Storage)
-    ∷ (codes "patience", form.Patience) ∷ (codes "own", form.Own) ∷ (codes "log", form.Log)
+    ∷ (codes "window", form.Option setting.Window) ∷ (codes "patience", form.Option setting.Patience)
+    ∷ (codes "seed", form.Option setting.Seed) ∷ (codes "swap", form.Option setting.Swap)
+    ∷ (codes "limit", form.Option setting.Limit) ∷ (codes "quota", form.Option setting.Quota)
+    ∷ (codes "own", form.Own) ∷ (codes "log", form.Log)
     ∷ (codes "clear", form.Clear) ∷ (codes "add", form.Atomic Add)
     ∷ (codes "and", form.Atomic And) ∷ (codes "or", form.Atomic Or) ∷ (codes "xor", form.Atomic Xor)
     ∷ (codes "max", form.Atomic Max) ∷ (codes "min", form.Atomic Min) ∷ (codes "byte_min", form.Atomic ByteMin)
     ∷ (codes "byte_max", form.Atomic ByteMax) ∷ (codes "append", form.Atomic AppendIfFits)
     ∷ (codes "compare_and_clear", form.Atomic CompareAndClear) ∷ (codes "life", form.Life) ∷ (codes "ask", form.Ask)
-    ∷ (codes "last", form.Last) ∷ (codes "do", form.Do) ∷ (codes "close", form.Close) ∷ (codes "end", form.End) ∷ []
+    ∷ (codes "last", form.Last) ∷ (codes "do", form.Do) ∷ (codes "close", form.Close) ∷ (codes "kill", form.Kill)
+    ∷ (codes "end", form.End) ∷ []
 
 -- the form that a table has for a word
 abbrev pub form_in : List (List ℕ × Form) → List ℕ → Option Form
@@ -55,10 +64,10 @@ form_in table word = option_map (λ row. row.1) (find (λ row. is_word word row.
 abbrev pub form_of : List ℕ → Option Form
 form_of word = form_in forms word
 
-abbrev pub patience_line : List ℕ → Result Line Kind
-patience_line word = do
-  polls ← number_field 1 1000 word
-  Ok (patience_of polls)
+abbrev pub option_line : Setting → List ℕ → Result Line Kind
+option_line setting word = do
+  number ← number_field (least_of setting) (most_of setting) word
+  Ok (sets setting number)
 
 abbrev pub batch_line : List ℕ → Result Line Kind
 batch_line word = do
@@ -116,11 +125,25 @@ step_line done (Some word) = do
   count ← number_field 1 1000000 word
   Ok (does done count)
 
--- `apply`, once or so often
-abbrev pub apply_line : List (List ℕ) → Result Line Kind
-apply_line [] = step_line (step.Act Apply) None
-apply_line (count ∷ []) = step_line (step.Act Apply) (Some count)
-apply_line words = Err kind.Word
+-- the acts that take no reader, each by its word
+abbrev pub act_of : List ℕ → Option Do
+act_of word =
+    if is_word word (codes "apply") then Some (step.Act Apply)
+    else (if is_word word (codes "began") then Some (step.Act Began)
+    else (if is_word word (codes "durable") then Some (step.Act Durable)
+    else (if is_word word (codes "flush") then Some step.Flush
+    else None)))
+
+-- an act, if its word is known
+abbrev pub known_act : Option Do → Option (List ℕ) → Result Line Kind
+known_act None count = Err kind.Word
+known_act (Some done) count = step_line done count
+
+-- an act that takes no reader, once or so often
+abbrev pub act_line : List (List ℕ) → Option Do → Result Line Kind
+act_line [] act = known_act act None
+act_line (count ∷ []) act = known_act act (Some count)
+act_line words act = Err kind.Word
 
 abbrev pub poll_by : List ℕ → Option (List ℕ) → Result Line Kind
 poll_by reader count = do
@@ -135,17 +158,21 @@ poll_line words = Err kind.Word
 
 abbrev pub do_line : List (List ℕ) → Result Line Kind
 do_line [] = Err kind.Word
-do_line (act ∷ words) =
-    if is_word act (codes "apply") then apply_line words
-    else (if is_word act (codes "poll") then poll_line words
-    else Err kind.Word)
+do_line (act ∷ words) = if is_word act (codes "poll") then poll_line words else act_line words (act_of act)
+
+-- how many calls of its disk pass before a life is killed, and what the crash leaves
+abbrev pub kill_line : (calls choice : List ℕ) → Result Line Kind
+kill_line calls choice = do
+  calls ← number_field 0 max_calls calls
+  choice ← number_field 0 max_number choice
+  Ok (kills calls choice)
 
 -- What the words after the first say. A wrong number of words, or an unknown one, is told before what single words
 -- stand for, of these the first from the left is told, and then what they are together
 abbrev pub line_of : Form → List (List ℕ) → Result Line Kind
 line_of form.Storage words = Ok head
-line_of form.Patience (polls ∷ []) = patience_line polls
-line_of form.Patience words = Err kind.Word
+line_of (form.Option setting) (number ∷ []) = option_line setting number
+line_of (form.Option setting) words = Err kind.Word
 line_of form.Own words = Ok owns_all
 line_of form.Log [] = Ok log_begins
 line_of form.Log (word ∷ words) = Err kind.Word
@@ -162,5 +189,7 @@ line_of form.Last words = last_line words
 line_of form.Do words = do_line words
 line_of form.Close [] = Ok closes
 line_of form.Close (word ∷ words) = Err kind.Word
+line_of form.Kill (calls ∷ choice ∷ []) = kill_line calls choice
+line_of form.Kill words = Err kind.Word
 line_of form.End [] = Ok ends
 line_of form.End (word ∷ words) = Err kind.Word

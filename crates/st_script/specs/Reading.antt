@@ -1,17 +1,16 @@
 -- The script that bytes are, or their first fault: its line, counted from 1, and its kind.
 use Rattle.std.specs.Prelude.{ℕ, ◌+◌, not, ◌&&◌, ◌||◌, nat_lt, List, [], ◌∷◌, length, Option, Some, None, Result, Ok, Err, codes, if◌then◌else◌}
-use Rattle.std.specs.Option.{unwrap_or}
 use Rattle.st_fold.specs.declared.plan.Kind.{Kind}
 use Rattle.st_fold.specs.declared.plan.Kind.TheVariants as kind
 use Rattle.st_fold.specs.declared.plan.Script.{Script}
-use Rattle.st_fold.specs.declared.plan.Settings.{Settings}
 use Rattle.st_script.specs.declared.form.Form.{Form}
 use Rattle.st_script.specs.declared.form.Place.{Place}
 use Rattle.st_script.specs.declared.form.Place.TheVariants as place
 use Rattle.st_script.specs.Words.{lines, words, is_skipped}
 use Rattle.st_script.specs.Fields.{is_word, ◌>>=◌}
 use Rattle.st_script.specs.Lines.{form_of, line_of}
-use Rattle.st_script.specs.Draft.{Drafted, nothing_yet, later_forms, is_among, is_later_line, is_allowed, is_repeated, add_line}
+use Rattle.st_script.specs.Draft.{Drafted, nothing_yet, later_forms, is_among, is_later_line, is_allowed, is_ruled_out, add_line}
+use Rattle.st_script.specs.Options.{settings_of}
 
 -- how many bytes a script may have
 abbrev pub max_bytes : ℕ
@@ -25,7 +24,7 @@ add_form draft form words = line_of form words >>= add_line draft
 abbrev pub judge_form : Drafted → Form → List (List ℕ) → Result Drafted Kind
 judge_form draft form words =
     if is_later_line draft form words then Err kind.Unbuilt
-    else (if not (is_allowed draft.place form) || is_repeated draft form then Err kind.Order
+    else (if not (is_allowed draft.place form) || is_ruled_out draft form then Err kind.Order
     else add_form draft form words)
 
 abbrev pub judge_known : Drafted → Option Form → List ℕ → List (List ℕ) → Result Drafted Kind
@@ -51,28 +50,12 @@ judge draft (word ∷ words) = at draft.place
 abbrev pub after_line : Drafted → List ℕ → Result Drafted Kind
 after_line draft line = if is_skipped (words line) then Ok draft else judge draft (words line)
 
--- where no script says something else
-abbrev pub default_settings : Settings
-default_settings = record {
-  window = 5000000;
-  patience = 3;
-  seed = 1;
-  swap = 1048576;
-  limit = 268435456;
-  quota = 4096;
-  block = 100;
-  watches = 10000;
-}
-
-abbrev pub settings_of : Drafted → Settings
-settings_of draft = record default_settings { patience = unwrap_or draft.patience default_settings.patience }
-
 -- a script is whole where its last line was its end
 abbrev pub finish : ℕ → Drafted → Result Script (ℕ × Kind)
 finish number draft = at draft.place
   where
     at : Place → Result Script (ℕ × Kind)
-    at place.Ended = Ok (record { settings = settings_of draft; own = draft.own; log = draft.log; lives = draft.lives })
+    at place.Ended = Ok (record { settings = settings_of draft.chosen; own = draft.own; log = draft.log; lives = draft.lives })
     at other = Err (number, kind.End)
 
 -- what follows a line of this number, unless the line is faulty

@@ -2,15 +2,16 @@
 ghost use Rattle.std.specs.Prelude.{◌≡◌, [], ◌∷◌, map};
 ghost use Rattle.st_script.specs.Draft.{nothing_yet};
 ghost use Rattle.st_script.specs.Outcome.{Becomes, Reads};
-ghost use Rattle.st_script.specs.Reading.{judge_head, judge_form, judge, after_line, default_settings, finish};
+ghost use Rattle.st_script.specs.Reading.{judge_head, judge_form, judge, after_line, finish};
 
 use crate::field::is_word;
 use crate::form::{Form, Place, is_allowed};
+use crate::options::Chosen;
 use crate::refusal::{LineRefusal, ScriptRefusal};
 use crate::store::Store;
 use crate::words::{first_words, is_skipped};
 use later::is_later_form;
-use st_fold::{Kind, LifePlan, Script, Settings};
+use st_fold::{Kind, LifePlan, Script};
 use st_key::Ranges;
 use st_list::Items;
 use st_mutation::Batch;
@@ -21,23 +22,11 @@ mod adding;
 mod growing;
 mod later;
 
-/// Where no script says something else.
-const DEFAULT_SETTINGS: Settings = Settings {
-    window: 5_000_000,
-    patience: 3,
-    seed: 1,
-    swap: 1_048_576,
-    limit: 268_435_456,
-    quota: 4_096,
-    block: 100,
-    watches: 10_000,
-};
-
 /// What the lines so far say. The last batch and the last life grow in place.
 #[derive(Debug, Drop)]
 pub(crate) struct Draft {
     place: Place,
-    patience: Option<u32>,
+    chosen: Chosen,
     own: Ranges,
     log: Vec<Batch>,
     lives: Vec<LifePlan>,
@@ -52,7 +41,7 @@ impl Model for Draft {
 
     ghost view = { λ a. record {
       place = a.place;
-      patience = a.patience;
+      chosen = a.chosen;
       own = a.own;
       log = a.log.items;
       lives = a.lives.items;
@@ -67,7 +56,7 @@ impl Draft {
     {
         Draft {
             place: Place::Start,
-            patience: None,
+            chosen: Chosen::none(),
             own: Ranges::new(alloc),
             log: Vec::new(alloc),
             lives: Vec::new(alloc),
@@ -143,7 +132,7 @@ impl Draft {
         if self.is_later_line(form, words) {
             return Err(LineRefusal::Bad(Kind::Unbuilt));
         }
-        if !is_allowed(self.place, form) || self.is_repeated(form) {
+        if !is_allowed(self.place, form) || self.is_ruled_out(form) {
             return Err(LineRefusal::Bad(Kind::Order));
         }
         self.add_form(alloc, store, form, words)
@@ -162,10 +151,7 @@ impl Draft {
         let mut log = self.log;
         log.shrink_to_fit();
         Ok(Script {
-            settings: Settings {
-                patience: self.patience.unwrap_or(DEFAULT_SETTINGS.patience),
-                ..DEFAULT_SETTINGS
-            },
+            settings: self.chosen.settings(),
             own: self.own,
             log: Items::from_vec(log),
             lives: Items::from_vec(self.lives),

@@ -13,6 +13,9 @@ use st_key::{Key, KeyRefusal, Range, Value};
 /// The greatest version.
 pub(crate) const MAX_VERSION: u64 = 9_223_372_036_854_775_807;
 
+/// How many calls of a life's disk may pass before a kill.
+pub(crate) const MAX_CALLS: u64 = 9_223_372_036_854_775_807;
+
 /// How many digits a number has at most.
 const MAX_DIGITS: usize = 20;
 

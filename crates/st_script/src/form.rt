@@ -4,13 +4,14 @@ ghost use Rattle.st_script.specs.Draft.{is_allowed};
 ghost use Rattle.st_script.specs.Lines.{form_in, form_of};
 
 use crate::field::is_word;
+use crate::options::Setting;
 use st_atomic::AtomicOp;
 
 /// The form of a line, which its first word tells.
 #[derive(Clone, Copy, Debug, PartialEq, Eq)]
 pub enum Form {
     Storage,
-    Patience,
+    Option(Setting),
     Own,
     Log,
     Batch,
@@ -22,15 +23,21 @@ pub enum Form {
     Last,
     Do,
     Close,
+    Kill,
     End,
 }
 
 // The forms, each by its first word. Most lines are sets and batches, which are found first.
-const FORMS: [(&[u8], Form); 23] = [
+const FORMS: [(&[u8], Form); 29] = [
     (b"set", Form::Set),
     (b"batch", Form::Batch),
     (b"storage", Form::Storage),
-    (b"patience", Form::Patience),
+    (b"window", Form::Option(Setting::Window)),
+    (b"patience", Form::Option(Setting::Patience)),
+    (b"seed", Form::Option(Setting::Seed)),
+    (b"swap", Form::Option(Setting::Swap)),
+    (b"limit", Form::Option(Setting::Limit)),
+    (b"quota", Form::Option(Setting::Quota)),
     (b"own", Form::Own),
     (b"log", Form::Log),
     (b"clear", Form::Clear),
@@ -52,6 +59,7 @@ const FORMS: [(&[u8], Form); 23] = [
     (b"last", Form::Last),
     (b"do", Form::Do),
     (b"close", Form::Close),
+    (b"kill", Form::Kill),
     (b"end", Form::End),
 ];
 
@@ -99,13 +107,16 @@ pub(crate) fn is_allowed(place: Place, form: Form) -> bool
 {
     matches!(
         (place, form),
-        (Place::Head, Form::Patience | Form::Own | Form::Log)
+        (Place::Head, Form::Option(_) | Form::Own | Form::Log)
             | (Place::Log, Form::Batch | Form::Life)
             | (
                 Place::Batch,
                 Form::Batch | Form::Set | Form::Clear | Form::Atomic(_) | Form::Life
             )
-            | (Place::Life, Form::Ask | Form::Last | Form::Do | Form::Close)
+            | (
+                Place::Life,
+                Form::Ask | Form::Last | Form::Do | Form::Close | Form::Kill
+            )
             | (Place::Closed, Form::Life | Form::End)
     )
 }

@@ -11,6 +11,7 @@ mod draft;
 mod field;
 mod form;
 mod line;
+mod options;
 mod refusal;
 mod request;
 mod store;

@@ -1,25 +1,25 @@
 //! What the words of a line say, after its first.
-ghost use Rattle.std.specs.Prelude.{◌≡◌, map, if◌then◌else◌};
+ghost use Rattle.std.specs.Prelude.{◌≡◌, ◌≤◌, IfOk, map, if◌then◌else◌};
 ghost use Rattle.std.specs.Option.{option_copied};
 ghost use Rattle.st_mutation.specs.declared.batch.Mutation.TheVariants as mutation;
 ghost use Rattle.st_script.specs.Fields.{number_field};
 ghost use Rattle.st_script.specs.Lines as said;
-ghost use Rattle.st_script.specs.Lines.{line_of, pair_of, pair_in, clear_line, asked_by, ask_line, last_line, step_line, apply_line, poll_by, poll_line, do_line};
+ghost use Rattle.st_script.specs.Lines.{line_of, pair_of, pair_in, clear_line, asked_by, ask_line, last_line, step_line, act_of, known_act, act_line, poll_by, poll_line, do_line, kill_line};
+ghost use Rattle.st_script.specs.Options.{most_of};
 ghost use Rattle.st_script.specs.Outcome.{Says, SaysAs};
 ghost use Rattle.st_script.specs.Words.{is_empty};
 
 use crate::field::{
-    MAX_VERSION, is_word, key as read_key, number, range, small_number, value as read_value,
+    MAX_CALLS, MAX_VERSION, is_word, key as read_key, number, range, small_number,
+    value as read_value,
 };
 use crate::form::{Form, Place};
+use crate::options::Setting;
 use crate::refusal::LineRefusal;
 use crate::request::{is_request, read_request};
 use crate::store::Store;
 use st_fold::{Act, Ask, Do, Kind};
 use st_key::{Key, Range, Value};
-
-/// How many polls the patience may be.
-const MAX_PATIENCE: u32 = 1_000;
 
 const MAX_READERS: u32 = 64;
 
@@ -36,13 +36,14 @@ pub(crate) fn bare(words: &[&[u8]], place: Place) -> Result<Place, LineRefusal>
     }
 }
 
-/// How many polls a request waits for its version.
-pub(crate) fn patience(words: &[&[u8]]) -> Result<u32, LineRefusal>
-    ensures { SaysAs said.patience_of result
-        (line_of Form.Patience (map (λ word. word.now) words.now)) }
+/// The number that an option sets.
+pub(crate) fn option(setting: Setting, words: &[&[u8]]) -> Result<u64, LineRefusal>
+    ensures value { SaysAs (said.sets setting) result
+        (line_of (Form.Option setting) (map (λ word. word.now) words.now)) }
+    ensures bound { IfOk result (λ number. number ≤ most_of setting) }
 {
     match words {
-        [polls] => Ok(small_number(polls, 1, MAX_PATIENCE)?),
+        [word] => Ok(number(word, setting.least(), setting.most())?),
         _ => Err(LineRefusal::Bad(Kind::Word)),
     }
 }
@@ -143,23 +144,48 @@ pub(crate) fn step(words: &[&[u8]]) -> Result<(Do, u64), LineRefusal>
     let Some((act, words)) = words.split_first() else {
         return Err(LineRefusal::Bad(Kind::Word));
     };
-    if is_word(act, b"apply") {
-        applied(words)
-    } else if is_word(act, b"poll") {
+    if is_word(act, b"poll") {
         polled(words)
     } else {
-        Err(LineRefusal::Bad(Kind::Word))
+        acted(act_of(act), words)
     }
 }
 
-fn applied(words: &[&[u8]]) -> Result<(Do, u64), LineRefusal>
+// The act that takes no reader, by its word.
+fn act_of(word: &[u8]) -> Option<Do>
+    ensures { result ≡ act_of word.now }
+{
+    if is_word(word, b"apply") {
+        Some(Do::Act(Act::Apply))
+    } else if is_word(word, b"began") {
+        Some(Do::Act(Act::Began))
+    } else if is_word(word, b"durable") {
+        Some(Do::Act(Act::Durable))
+    } else if is_word(word, b"flush") {
+        Some(Do::Flush)
+    } else {
+        None
+    }
+}
+
+fn acted(step: Option<Do>, words: &[&[u8]]) -> Result<(Do, u64), LineRefusal>
     ensures { SaysAs (λ step. said.does step.0 step.1) result
-        (apply_line (map (λ word. word.now) words.now)) }
+        (act_line (map (λ word. word.now) words.now) step) }
 {
     match words {
-        [] => repeated(Do::Act(Act::Apply), None),
-        [count] => repeated(Do::Act(Act::Apply), Some(count)),
+        [] => known(step, None),
+        [count] => known(step, Some(count)),
         _ => Err(LineRefusal::Bad(Kind::Word)),
+    }
+}
+
+fn known(step: Option<Do>, count: Option<&[u8]>) -> Result<(Do, u64), LineRefusal>
+    ensures { SaysAs (λ step. said.does step.0 step.1) result
+        (known_act step (option_copied count.entry)) }
+{
+    match step {
+        Some(step) => repeated(step, count),
+        None => Err(LineRefusal::Bad(Kind::Word)),
     }
 }
 
@@ -199,4 +225,23 @@ fn reader_number(word: &[u8]) -> Result<u32, Kind>
     ensures { result ≡ number_field 1 64 word.now }
 {
     small_number(word, 1, MAX_READERS)
+}
+
+/// How many calls of its disk pass before a life is killed, and what the crash leaves.
+pub(crate) fn killed(words: &[&[u8]]) -> Result<(u64, u64), LineRefusal>
+    ensures { SaysAs (λ kill. said.kills kill.0 kill.1) result
+        (line_of Form.Kill (map (λ word. word.now) words.now)) }
+{
+    match words {
+        [calls, choice] => killed_after(calls, choice),
+        _ => Err(LineRefusal::Bad(Kind::Word)),
+    }
+}
+
+fn killed_after(calls: &[u8], choice: &[u8]) -> Result<(u64, u64), LineRefusal>
+    ensures { SaysAs (λ kill. said.kills kill.0 kill.1) result (kill_line calls.now choice.now) }
+{
+    let calls = number(calls, 0, MAX_CALLS)?;
+    let choice = number(choice, 0, u64::MAX)?;
+    Ok((calls, choice))
 }

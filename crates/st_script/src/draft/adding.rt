@@ -7,8 +7,9 @@ ghost use Rattle.st_script.specs.Reading.{add_form};
 use crate::draft::Draft;
 use crate::form::{Form, Place};
 use crate::line::{
-    asked, asked_at_end, bare, batch_version, cleared, life_version, pair, patience, step,
+    asked, asked_at_end, bare, batch_version, cleared, killed, life_version, option, pair, step,
 };
+use crate::options::Setting;
 use crate::refusal::LineRefusal;
 use crate::store::Store;
 use st_atomic::AtomicOp;
@@ -30,7 +31,7 @@ impl Draft {
     {
         match form {
             Form::Storage => self.place = Place::Head,
-            Form::Patience => self.patience = Some(patience(words)?),
+            Form::Option(setting) => return self.add_option(setting, words),
             Form::Own => self.own = all_keys(alloc)?,
             Form::Log => self.place = bare(words, Place::Log)?,
             Form::Batch => return self.add_batch(alloc, words),
@@ -42,8 +43,18 @@ impl Draft {
             Form::Last => return self.add_last(store, words),
             Form::Do => return self.add_step(words),
             Form::Close => self.place = bare(words, Place::Closed)?,
+            Form::Kill => return self.add_kill(words),
             Form::End => self.place = bare(words, Place::Ended)?,
         }
+        Ok(())
+    }
+
+    fn add_option(&mut self, setting: Setting, words: &[&[u8]]) -> Result<(), LineRefusal>
+        ensures { Becomes result self.new
+            (add_form self.old (Form.Option setting) (map (λ word. word.now) words.now)) }
+    {
+        let number = option(setting, words)?;
+        self.chosen.choose(setting, number);
         Ok(())
     }
 
@@ -114,6 +125,15 @@ impl Draft {
     {
         let (step, count) = step(words)?;
         self.push_step(step, count)
+    }
+
+    fn add_kill(&mut self, words: &[&[u8]]) -> Result<(), LineRefusal>
+        ensures { Becomes result self.new
+            (add_form self.old Form.Kill (map (λ word. word.now) words.now)) }
+    {
+        let (calls, choice) = killed(words)?;
+        self.kill_life(calls, choice);
+        Ok(())
     }
 }
 

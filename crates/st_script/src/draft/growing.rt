@@ -1,7 +1,8 @@
 //! How the script grows: its last batch and its last life do so in place.
 ghost use Rattle.std.specs.Prelude.{◌≡◌, OnOk, OnErr};
-ghost use Rattle.st_script.specs.Draft.{on_last, last_version, add_batch, add_mutation, add_request, rows_asked, add_line};
+ghost use Rattle.st_script.specs.Draft.{on_last, last_version, last_upto, add_batch, add_life, add_mutation, add_request, rows_asked, kill_after, add_line};
 ghost use Rattle.st_script.specs.Lines as said;
+ghost use Rattle.st_script.specs.declared.form.Place.TheVariants.{Closed};
 ghost use Rattle.st_script.specs.Outcome.{Becomes};
 
 use crate::draft::Draft;
@@ -15,14 +16,14 @@ use std::alloc::{AllocError, Global};
 /// How many batches a script may have.
 const MAX_BATCHES: usize = 1_000_000;
 
+/// How many lives a script may have.
+const MAX_LIVES: usize = 1_000;
+
 /// How many requests a script may have.
 const MAX_REQUESTS: u64 = 100_000;
 
 /// How many rows the requests of a script may ask for together.
 const MAX_ROWS: u64 = 10_000_000;
-
-/// Up to which version a batch is played yet.
-const MAX_PLAYED: u64 = 5_000_000;
 
 impl Draft {
     pub(super) fn begin_batch(&mut self, alloc: Global, version: u64) -> Result<(), LineRefusal>
@@ -30,9 +31,6 @@ impl Draft {
     {
         if version <= self.last_version() {
             return Err(LineRefusal::Bad(Kind::Version));
-        }
-        if version > MAX_PLAYED {
-            return Err(LineRefusal::Bad(Kind::Unbuilt));
         }
         if self.log.len() >= MAX_BATCHES {
             return Err(LineRefusal::Bad(Kind::Limit));
@@ -69,8 +67,14 @@ impl Draft {
     }
 
     pub(super) fn begin_life(&mut self, alloc: Global, upto: u64) -> Result<(), LineRefusal>
-        ensures { Becomes result self.new (add_line self.old (said.life_to upto)) }
+        ensures { Becomes result self.new (add_life self.old upto) }
     {
+        if upto < self.last_upto() {
+            return Err(LineRefusal::Bad(Kind::Version));
+        }
+        if self.lives.len() >= MAX_LIVES {
+            return Err(LineRefusal::Bad(Kind::Limit));
+        }
         self.lives.push(LifePlan {
             upto,
             asks: Items::new(alloc),
@@ -82,6 +86,16 @@ impl Draft {
         })?;
         self.place = Place::Life;
         Ok(())
+    }
+
+    // Up to which version the last life goes, or 0.
+    fn last_upto(&self) -> u64
+        ensures { result ≡ last_upto self.now.lives }
+    {
+        match self.lives.last() {
+            Some(life) => life.upto,
+            None => 0,
+        }
     }
 
     pub(super) fn push_request(&mut self, reader: u32, ask: Ask) -> Result<(), LineRefusal>
@@ -114,6 +128,17 @@ impl Draft {
             life.dos.push((step, count))?;
         }
         Ok(())
+    }
+
+    /// Ends the last life by a kill.
+    pub(super) fn kill_life(&mut self, calls: u64, choice: u64)
+        ensures { self.new
+            ≡ record self.old { place = Closed; lives = on_last (kill_after calls choice) self.old.lives } }
+    {
+        if let Some(life) = self.lives.last_mut() {
+            life.kill = Some((calls, choice));
+        }
+        self.place = Place::Closed;
     }
 }
 

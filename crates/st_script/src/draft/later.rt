@@ -1,7 +1,7 @@
 //! Lines that aren't played yet, and lines that may not come again.
 ghost use Rattle.std.specs.Prelude.{◌≡◌, map};
 ghost use Rattle.std.specs.List.{list_any};
-ghost use Rattle.st_script.specs.Draft.{later_forms, later_requests, later_acts, is_among, are_all_keys, is_later_line, is_repeated};
+ghost use Rattle.st_script.specs.Draft.{later_forms, later_requests, later_acts, is_among, are_all_keys, is_later_line, has_lasts, is_ruled_out};
 ghost use Rattle.st_script.specs.Fields.{is_word};
 
 use crate::draft::Draft;
@@ -9,24 +9,18 @@ use crate::field::is_word;
 use crate::form::Form;
 
 // The first words of forms that aren't played yet.
-const LATER_FORMS: [&[u8]; 12] = [
-    b"window",
-    b"seed",
-    b"swap",
-    b"limit",
-    b"quota",
+const LATER_FORMS: [&[u8]; 6] = [
     b"block",
     b"watches",
     b"assign",
     b"drop",
     b"cut",
     b"peerfail",
-    b"kill",
 ];
 
 const LATER_REQUESTS: [&[u8]; 1] = [b"watch"];
 
-const LATER_ACTS: [&[u8]; 5] = [b"start", b"block", b"began", b"durable", b"flush"];
+const LATER_ACTS: [&[u8]; 2] = [b"start", b"block"];
 
 // ff in hex of either case.
 const END_OF_KEYS: [&[u8]; 4] = [b"ff", b"fF", b"Ff", b"FF"];
@@ -39,28 +33,41 @@ impl Draft {
         match form {
             Form::Own => !self.own.pieces().is_empty() || !are_all_keys(words),
             Form::Log => self.own.pieces().is_empty(),
-            Form::Life => !self.lives.is_empty(),
             Form::Ask => matches!(words, [_, request, ..] if is_among(&LATER_REQUESTS, request)),
             Form::Do => matches!(words, [act, ..] if is_among(&LATER_ACTS, act)),
             Form::Storage
-            | Form::Patience
+            | Form::Option(_)
             | Form::Batch
             | Form::Set
             | Form::Clear
             | Form::Atomic(_)
+            | Form::Life
             | Form::Last
             | Form::Close
+            | Form::Kill
             | Form::End => false,
         }
     }
 
-    /// Whether the line is an option that an earlier line has set.
-    pub(super) fn is_repeated(&self, form: Form) -> bool
-        ensures { result ≡ is_repeated self.now form }
+    /// Whether earlier lines rule the line out: it is an option that one of them has set, or a kill
+    /// of a life at whose end one of them asks.
+    pub(super) fn is_ruled_out(&self, form: Form) -> bool
+        ensures { result ≡ is_ruled_out self.now form }
     {
         match form {
-            Form::Patience => self.patience.is_some(),
+            Form::Option(setting) => self.chosen.has(setting),
+            Form::Kill => self.has_lasts(),
             _ => false,
+        }
+    }
+
+    // Whether the last life has requests that are answered at its end.
+    fn has_lasts(&self) -> bool
+        ensures { result ≡ has_lasts self.now.lives }
+    {
+        match self.lives.last() {
+            Some(life) => !life.lasts.is_empty(),
+            None => false,
         }
     }
 }

@@ -1,8 +1,11 @@
-use Rattle.st_script.proofs.Drafts.{last_version-last}
+use Rattle.std.proofs.Common.{◌≡◌, ap, ◌∙◌}
+use Rattle.std.specs.Option.{option_map_or}
+use Rattle.st_script.specs.Draft.{last_of}
+use Rattle.st_script.proofs.Drafts.{last_of-last}
 use Rattle.st_script.proofs.draft.Draft.last_version.Goals as goal
 
 pub returns-in-Some : goal.returns-in-Some
-returns-in-Some c = rw (← c.self.view_is, ← c.deref.ensures.value) (last_version-last c.deref.result.now _ c.in-Some.ensures.value)
+returns-in-Some c = rw (← c.self.view_is, ← c.deref.ensures.value) (ap (λ o. option_map_or (λ batch. batch.version) o 0) (c.in-Some.ensures.value ∙ last_of-last c.deref.result.now))
 
 pub returns-in-None : goal.returns-in-None
-returns-in-None c = rw (← c.self.view_is, ← c.deref.ensures.value) (last_version-last c.deref.result.now _ c.in-None.ensures.value)
+returns-in-None c = rw (← c.self.view_is, ← c.deref.ensures.value) (ap (λ o. option_map_or (λ batch. batch.version) o 0) (c.in-None.ensures.value ∙ last_of-last c.deref.result.now))

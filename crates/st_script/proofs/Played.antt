@@ -162,9 +162,14 @@ ends_below (x ∷ xs) below = first (nat_lt x 255) refl below
     not_below Equal e = let no : key_less xs [] ≡ true = e in absurd (false≢true (sym (none_below xs) ∙ no))
     not_below Greater e = absurd (false≢true e)
 
+    not_less : (less same : Bool) → less ≡ false → (if less then Less else (if same then Equal else Greater)) ≡ Less → ⊥
+    not_less true same e less = false≢true (sym e)
+    not_less false true e less = let no : Equal ≡ Less = less in cc
+    not_less false false e less = let no : Greater ≡ Less = less in cc
+
     first : (b : Bool) → nat_lt x 255 ≡ b → key_less (x ∷ xs) (255 ∷ []) ≡ true → key_less (255 ∷ []) (x ∷ xs ++ 0 ∷ []) ≡ false
     first true less e = let more : nat_cmp 255 x ≡ Greater = sym (nat_cmp_is 255 x Greater (ltb-true x 255 less)) in rw more refl
-    first false less e = let lower = not_below (nat_cmp x 255) e in let no : Greater ≡ Less = _ in cc
+    first false less e = absurd (not_less (nat_lt x 255) (x == 255) less (not_below (nat_cmp x 255) e))
 
 -- ---- what holds of a draft at its place
 
@@ -501,7 +506,7 @@ playable_asked n request next asked users plan l = rw (is_reader request.reader 
         lasts = p.lasts;
         asks_users = all_push AsksUsers plan.asks request p.asks_users users;
         lasts_users = p.lasts_users;
-        asks_rise = numbers_push 0 n plan.asks request (lit≤ tt) p.asks_rise l.asks (omega arith);
+        asks_rise = numbers_push 0 n plan.asks request (omega arith) p.asks_rise l.asks (omega arith);
         lasts_rise = p.lasts_rise;
         apart = all_push (λ ask. AllByRecursion (IsOther n ask) plan.lasts) plan.asks request p.apart (others_of_ask n request next plan.lasts l.lasts);
         dos = p.dos;
@@ -525,7 +530,7 @@ playable_last n request next last users plan l =
         asks_users = p.asks_users;
         lasts_users = all_push AsksUsers plan.lasts request p.lasts_users users;
         asks_rise = p.asks_rise;
-        lasts_rise = numbers_push 0 n plan.lasts request (lit≤ tt) p.lasts_rise l.lasts (omega arith);
+        lasts_rise = numbers_push 0 n plan.lasts request (omega arith) p.lasts_rise l.lasts (omega arith);
         apart = others_of_last n request next plan.asks plan.lasts l.asks p.apart;
         dos = p.dos;
         no_cuts = p.no_cuts;

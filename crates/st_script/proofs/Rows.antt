@@ -1,10 +1,10 @@
 -- Scripts read by the definitions alone.
 use Rattle.std.proofs.Common.{◌≡◌, [], ◌∷◌, refl, codes, Ok, Err}
-use Rattle.std.specs.Prelude.{None, pos, negsuc, true, false}
+use Rattle.std.specs.Prelude.{None, Some, pos, negsuc, true, false}
 use Rattle.hex.proofs.OnLiterals.{hex_on_literals}
 use Rattle.st_atomic.specs.declared.AtomicOp.TheVariants.{Add, CompareAndClear}
 use Rattle.st_mutation.specs.declared.batch.Mutation.TheVariants.{Set, Clear, Atomic}
-use Rattle.st_fold.specs.declared.plan.Act.TheVariants.{Apply}
+use Rattle.st_fold.specs.declared.plan.Act.TheVariants.{Apply, Began, Durable}
 use Rattle.st_fold.specs.declared.plan.Do.TheVariants as step
 use Rattle.st_fold.specs.declared.plan.Kind.TheVariants as kind
 use Rattle.st_fold.specs.declared.request.Ask.TheVariants.{Get, Rows, Select}
@@ -71,6 +71,61 @@ first_get : script_of (codes "storage 1\nown - ff\nlog\nbatch 1\nset 61 31\nlife
 unfolding hex_on_literals
 first_get = refl
 
+-- every option, in another order, with the least and the greatest numbers of some
+options_set : script_of (codes "storage 1\nquota 1\nlimit 268435456\nown - ff\nswap 64\nseed 18446744073709551615\npatience 1000\nwindow 4611686018427387904\nlog\nlife 0\nclose\nend\n") ≡ Ok (record {
+  settings = record {
+    window = 4611686018427387904;
+    patience = 1000;
+    seed = 18446744073709551615;
+    swap = 64;
+    limit = 268435456;
+    quota = 1;
+    block = 100;
+    watches = 10000;
+  };
+  own = all_keys ∷ [];
+  log = [];
+  lives = record {
+    upto = 0;
+    asks = [];
+    lasts = [];
+    dos = [];
+    cuts = [];
+    peerfails = [];
+    kill = None;
+  } ∷ [];
+})
+unfolding hex_on_literals
+options_set = refl
+
+-- requests are numbered over all lives
+killed_and_closed : script_of (codes "storage 1\nseed 7\nown - ff\nlog\nbatch 9223372036854775807\nset 61 31\nlife 2\nask 1 get 61 @1\ndo began\ndo durable 2\ndo flush 3\nkill 5 6\nlife 2\nlast get 61 @2\ndo apply\nclose\nend\n") ≡ Ok (record {
+  settings = record default_settings { seed = 7 };
+  own = all_keys ∷ [];
+  log = record { version = 9223372036854775807; moves = []; mutations = Set (97 ∷ []) (49 ∷ []) ∷ [] } ∷ [];
+  lives =
+      record {
+        upto = 2;
+        asks = record { number = 1; reader = 1; ask = Get (97 ∷ []) 1 } ∷ [];
+        lasts = [];
+        dos = (step.Act Began, 1) ∷ (step.Act Durable, 2) ∷ (step.Flush, 3) ∷ [];
+        cuts = [];
+        peerfails = [];
+        kill = Some (5, 6);
+      }
+      ∷ record {
+        upto = 2;
+        asks = [];
+        lasts = record { number = 2; reader = 0; ask = Get (97 ∷ []) 2 } ∷ [];
+        dos = (step.Act Apply, 1) ∷ [];
+        cuts = [];
+        peerfails = [];
+        kill = None;
+      } ∷ [];
+})
+unfolding hex_on_literals
+killed_and_closed = refl
+
 head_fault : script_of (codes "storage 2") ≡ Err (1, kind.Head)
 head_fault = refl
 
@@ -132,6 +187,24 @@ watch_fault = refl
 -- an option for the second time
 option_fault : script_of (codes "storage 1\npatience 5\npatience 0") ≡ Err (3, kind.Order)
 option_fault = refl
+
+window_fault : script_of (codes "storage 1\nwindow 4611686018427387905") ≡ Err (2, kind.Number)
+window_fault = refl
+
+block_fault : script_of (codes "storage 1\nblock 100") ≡ Err (2, kind.Unbuilt)
+block_fault = refl
+
+-- a life doesn't go less far than the one before it
+life_fault : script_of (codes "storage 1\nown - ff\nlog\nlife 2\nclose\nlife 1") ≡ Err (6, kind.Version)
+life_fault = refl
+
+-- a life whose end is asked about isn't killed, whatever the words are
+kill_fault : script_of (codes "storage 1\nown - ff\nlog\nlife 1\nlast get 61 @1\nkill") ≡ Err (6, kind.Order)
+unfolding hex_on_literals
+kill_fault = refl
+
+start_fault : script_of (codes "storage 1\nown - ff\nlog\nlife 1\ndo start") ≡ Err (5, kind.Unbuilt)
+start_fault = refl
 
 -- comments, blank lines, doubled spaces, leading zeros, hex of either case, and no LF at the end
 spaced : script_of (codes "# a script\n\n  storage   1 \nown - FF\n # its log\nlog\nbatch 007\nset 6A  -\nlife 7\nclose\nend") ≡ Ok (record {

@@ -1,7 +1,6 @@
 -- Each script that is read is one that is played.
-use Rattle.std.proofs.Common.{◌≡◌, ℕ, ◌<◌, ◌≤◌, ◌&&◌, ◌||◌, ◌==◌, Bool, true, false, not, nat_lt, nat_le, ◌+◌, List, [], ◌∷◌, ◌++◌, length, Option, Some, None, Result, Ok, Err, IfOk, ◌⊎◌, inl, inr, if◌then◌else◌, codes, refl, sym, ◌∙◌, subst, rules, tests, arith, ltb-true, ltb-false, leb-true, lit<, lit≤}
+use Rattle.std.proofs.Common.{◌≡◌, ℕ, ◌<◌, ◌≤◌, ◌&&◌, ◌||◌, ◌==◌, Bool, true, false, not, nat_lt, nat_le, ◌+◌, List, [], ◌∷◌, ◌++◌, length, Option, Some, None, Result, Ok, Err, IfOk, ◌⊎◌, inl, inr, if◌then◌else◌, codes, refl, sym, ◌∙◌, subst, arith, ltb-true, ltb-false, leb-true, lit<, lit≤}
 use Rattle.std.specs.Prelude.{◌^◌, IfSome}
-use Rattle.std.specs.Option.{option_map_or, unwrap_or}
 use Rattle.std.specs.Ordering.{nat_cmp, is_lt, ordering_then}
 use Rattle.std.specs.Cmp.{nat_cmp_is}
 use Rattle.std.specs.Cmp.Lexicographic.{slice_cmp}
@@ -36,7 +35,7 @@ use Rattle.st_script.specs.Fields.{number_of, number_in, number_field, offset_fi
 use Rattle.st_script.specs.Requests.{is_request, get_of, rows_of, select_of, request_of}
 use Rattle.st_script.specs.Lines.{Line, pair_of, pair_in, asked_by, asked_at_end, step_line, act_of, known_act, act_line, poll_by, poll_line, kill_line, line_of, form_of}
 use Rattle.st_script.specs.Options.{settings_of, least_of, most_of, choose, none_chosen, IsBounded}
-use Rattle.st_script.specs.Draft.{Drafted, nothing_yet, all_keys, max_batches, max_lives, max_requests, max_rows, no_mutations, no_steps, add_batch, add_life, add_mutation, add_request, add_asked, rows_asked, add_step, kill_after, on_last, last_of, last_version, last_upto, is_later_line, is_allowed, is_ruled_out, add_line, later_forms, is_among}
+use Rattle.st_script.specs.Draft.{Drafted, nothing_yet, all_keys, max_batches, max_lives, max_requests, max_rows, no_mutations, no_steps, add_batch, add_life, add_mutation, add_request, add_asked, rows_asked, add_step, kill_after, on_last, last_version, last_upto, is_later_line, is_allowed, is_ruled_out, add_line, later_forms, is_among}
 use Rattle.st_script.specs.Reading.{judge_known, judge_head, judge, after_line, finish, on_draft, judge_lines, max_bytes, script_of}
 use Rattle.st_script.specs.declared.refusal.ScriptRefusal.{ScriptRefusal}
 use Rattle.st_script.specs.Outcome.{Reads}

@@ -16,9 +16,10 @@ const DEFAULT_SETTINGS: Settings = Settings {
     watches: 10_000,
 };
 
-/// How many bytes a queue file may have, and the fewest that it may be bounded by.
+/// How many bytes a queue file may have.
 const MAX_FILE: u64 = 268_435_456;
 
+/// The fewest bytes that one may be bounded by.
 const MIN_FILE: u64 = 64;
 
 /// What an option sets.

@@ -1,4 +1,4 @@
-use Rattle.std.proofs.Common.{◌≡◌, not, false, ap, ◌∙◌}
+use Rattle.std.proofs.Common.{not, false, ap, ◌∙◌}
 use Rattle.std.specs.Option.{option_map_or}
 use Rattle.st_script.specs.Words.{is_empty}
 use Rattle.st_script.proofs.Drafts.{last_of-last, is_empty-length}

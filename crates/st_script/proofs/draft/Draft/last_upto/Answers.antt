@@ -1,4 +1,4 @@
-use Rattle.std.proofs.Common.{◌≡◌, ap, ◌∙◌}
+use Rattle.std.proofs.Common.{ap, ◌∙◌}
 use Rattle.std.specs.Option.{option_map_or}
 use Rattle.st_script.proofs.Drafts.{last_of-last}
 use Rattle.st_script.proofs.draft.Draft.last_upto.Goals as goal

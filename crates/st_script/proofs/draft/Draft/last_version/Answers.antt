@@ -1,6 +1,5 @@
-use Rattle.std.proofs.Common.{◌≡◌, ap, ◌∙◌}
+use Rattle.std.proofs.Common.{ap, ◌∙◌}
 use Rattle.std.specs.Option.{option_map_or}
-use Rattle.st_script.specs.Draft.{last_of}
 use Rattle.st_script.proofs.Drafts.{last_of-last}
 use Rattle.st_script.proofs.draft.Draft.last_version.Goals as goal
 

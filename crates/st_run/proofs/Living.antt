@@ -30,7 +30,7 @@ use Rattle.st_queue.specs.Mounting.{IsImageOf, IsSyncedOrStopped, after_both, mo
 use Rattle.st_restart.specs.Agreement.{Agrees}
 use Rattle.st_restart.specs.Opened.{as_opened, opened, opened_fresh}
 use Rattle.st_run.specs.Lived.{IsBegun, IsLivable, IsLived, IsUnbegun, IsUnwritten, LivesOn, ToldUnwritten, start_found, start_of}
-use Rattle.st_run.specs.Opening.{FailsToOpen, IsFault, IsOpenOn}
+use Rattle.st_run.specs.Opening.{IsFault, IsForeign, IsOpenOn}
 use Rattle.st_run.specs.declared.opening.Opened.{Opened}
 use Rattle.st_run.proofs.Servers.{agreed}
 
@@ -111,7 +111,7 @@ cause-below told own log fused before above now (fault.Damaged damage) is of = t
     told-below (Some h) of = of
 cause-below told own log fused before above now (fault.Foreign part) is of = told-below (told (inner_of fused)) of
   where
-    told-below : (o : Option History) → IfSome (option_map (λ (h : History). record h { made = fused.passed; passes = fused.passes }) o) (λ h. IsOkAnd (opened own (seen h)) _) → IfSome o (λ h. IsOkAnd (opened own (seen h)) _)
+    told-below : (o : Option History) → IfSome (option_map (λ (h : History). record h { made = fused.passed; passes = fused.passes }) o) (λ h. IsOkAnd (opened own (seen h)) (IsForeign own log part)) → IfSome o (λ h. IsOkAnd (opened own (seen h)) (IsForeign own log part))
     told-below None of = tt
     told-below (Some h) of = of
 cause-below told own log fused before above now fault.Memory is of = tt
@@ -134,9 +134,9 @@ lets-through plan passed passes (Some h) livable none is = of plan.kill refl liv
     twice = ap (λ n. risen (risen n)) none
 
     of : (kill : Option (ℕ × ℕ)) → plan.kill ≡ kill → IfSome kill (λ k. k.0 < 2 ^ 63) → LetsThrough plan (after_both (record h { made = passed; passes = passes }))
-    of None no few = record {
-      passes = is ∙ ap (option_map (λ k. 2 + k.0)) no ∙ sym (ap (option_map (λ k. risen (risen passed) + k.0)) no);
-      countable = λ n some. absurd (cc (sym some, is, ap (option_map (λ (k : ℕ × ℕ). 2 + k.0)) no));
+    of None nil few = record {
+      passes = is ∙ ap (option_map (λ k. 2 + k.0)) nil ∙ sym (ap (option_map (λ k. risen (risen passed) + k.0)) nil);
+      countable = λ n some. absurd (cc (sym some, is, ap (option_map (λ (k : ℕ × ℕ). 2 + k.0)) nil));
     }
     of (Some kill) some few = record {
       passes = is ∙ ap (λ n. option_map (λ k. n + k.0) plan.kill) (sym twice);
@@ -190,10 +190,10 @@ module _ {D : Type 0} (told : D → Option History) (count : D → ℕ) (given :
       log = log;
     }
       where
-        abbrev Lives : History → Type 0
+        Lives : History → Type 0
         Lives h = IsPlayedOut told (start_found given plan found h) ended life ⊎ (is_failure ended.fault ≡ true) × IsCutOff told (start_found given plan found h) ended life
 
-        abbrev above : History → History
+        above : History → History
         above h = record h { made = fused.passed; passes = fused.passes }
 
         of : (o : Option History) → IfSome (option_map above o) (λ h. mount_of (seen h) ≡ Ok (kept_in (seen h) found.engine))

@@ -1,5 +1,5 @@
 -- A run over a disk that tells its history: its lives are demanded, follow their schedules, and leave a disk that opens behind them.
-use Rattle.std.proofs.Common.{◌≡◌, ◌∙◌, ◌≤◌, ◌⊎◌, ⊎_elim, inl, inr, ℕ, suc, Bool, true, false, ◌&&◌, if◌then◌else◌, List, [], ◌∷◌, map, length, Option, Some, None, is_some, is_none, Result, Ok, Err, IfSome, IsTrue, MatchResult, refl, sym, ap, subst, arith}
+use Rattle.std.proofs.Common.{◌≡◌, ◌∙◌, ◌≤◌, ◌⊎◌, ⊎_elim, inl, inr, ℕ, suc, Bool, true, false, ◌&&◌, bytes_eq, if◌then◌else◌, List, [], ◌∷◌, map, length, Option, Some, None, is_some, is_none, Result, Ok, Err, IfSome, IsTrue, MatchResult, refl, sym, ap, subst, arith}
 use Rattle.std.proofs.lemmas.Bool.{false≢true}
 use Rattle.std.proofs.lemmas.Option.{same_Some}
 use Rattle.std.proofs.lemmas.Slice.Eq.{bytes_eq-Decides}
@@ -89,14 +89,16 @@ failure-some : (why : Option Fault) → is_failure why ≡ true → (fault : Fau
 failure-some None is = absurd (false≢true is)
 failure-some (Some why) is = (why, refl)
 
+both-true : (s t : Bool) → s ≡ true → t ≡ true → (s && t) ≡ true
+both-true true t one other = other
+both-true false t one other = absurd (false≢true one)
+
 -- what is the log's isn't foreign
 first-same : (pairs : Map) → first_difference pairs pairs ≡ None
 first-same [] = refl
 first-same (pair ∷ pairs) =
-    ap (λ (t : Bool). if t then first_difference pairs pairs else Some (least pair.0 pair.0)) (both ((bytes_eq-Decides pair.0 pair.0).1 refl) ((bytes_eq-Decides pair.1 pair.1).1 refl)) ∙ first-same pairs
-  where
-    both : {s t : Bool} → s ≡ true → t ≡ true → (s && t) ≡ true
-    both one other = ap (λ (b : Bool). b && _) one ∙ other
+    ap (λ (t : Bool). if t then first_difference pairs pairs else Some (least pair.0 pair.0))
+    (both-true (bytes_eq pair.0 pair.0) (bytes_eq pair.1 pair.1) ((bytes_eq-Decides pair.0 pair.0).1 refl) ((bytes_eq-Decides pair.1 pair.1).1 refl)) ∙ first-same pairs
 
 agrees-or : (script : Script) (one : Opens) (part : ForeignPart) → Agrees script.own script.log one → IsForeign script.own script.log part one → ⊥
 agrees-or script one part.Version agrees foreign = absurd (false≢true (sym foreign.1 ∙ agrees.version))
@@ -231,13 +233,13 @@ module _ {D : Type 0} (told : D → Option History) (count : D → ℕ) (script 
       parts : (lived.start.given ≡ given_by script plan) × (lived.start.plan ≡ plan) × IsOkAnd (opened script.own (seen h)) (λ one. lived.start.opening ≡ opening_of one)
       parts = start-parts (given_by script plan) plan (opened script.own (seen h)) (mount_of (seen h)) lived.start lived.starts
 
-      first : Begun
+      abbrev first : Begun
       first = record { plan = plan; opening = lived.start.opening; life = life }
 
       may-first : may lived.start.opening
       may-first = at-opening may (λ one. Agrees script.own script.log one) (opened script.own (seen h)) lived.start.opening parts.2 opens
 
-      there : (n : History) × (told ended.disk ≡ Some n)
+      abbrev there : (n : History) × (told ended.disk ≡ Some n)
       there = told-now ended.disk
 
       -- what a crash leaves of the disk opens behind the life
@@ -285,7 +287,7 @@ module _ {D : Type 0} (told : D → Option History) (count : D → ℕ) (script 
           inl (
             played.plays,
             seen there.0,
-            (λ whole. ap-seen (subst (λ (t : Option History). IfSome t (λ n. n.now ≡ _)) there.1 (played.left whole))),
+            (λ whole. ap-seen (subst (λ (t : Option History). IfSome t (λ n. n.now ≡ (fresh (leaves lived.start played.plays.0)).now)) there.1 (played.left whole))),
             subst (λ (f : Option Fault). EndsWith f (AreReplayed (WritesWhole told) script plans (seen there.0) others.lives others.fault (seen later.now)) (seen there.0) (seen later.now) others.lives others.fault) (sym none) later.replayed,
           ),
         );
@@ -328,17 +330,16 @@ module _ {D : Type 0} (told : D → Option History) (count : D → ℕ) (script 
       → RunsOn told count script plans before ran → Followed may plans h ran
   follow [] may before h is opens can ran runs =
       subst (Followed may [] h) (same-ran ran (record { lives = []; fault = None; disk = before }) runs.0 runs.1 runs.2) (none-left may before h is)
-  follow (plan ∷ plans) may before h is opens can ran runs = of ended.life refl runs.1 runs.2
+  follow (plan ∷ plans) may before h is opens can ran (ended, lives-on, leads) =
+      of (λ may before h is opens ran runs. follow plans may before h is opens can.1 ran runs) ended.life refl lives-on leads
     where
-      ended : LifeEnded D
-      ended = runs.0
-
-      of : (o : Option Life) → ended.life ≡ o → LivesOn told count (given_by script plan) plan before ended o
+      of : ((may : Opening → Type 0) (before : D) (h : History) → told before ≡ Some h → OpensBy may (seen h) → (ran : Ran D) → RunsOn told count script plans before ran → Followed may plans h ran)
+          → (o : Option Life) → ended.life ≡ o → LivesOn told count (given_by script plan) plan before ended o
           → LeadsOn (λ others. RunsOn told count script plans ended.disk (record ran { lives = others })) ended ran o ended.fault → Followed may (plan ∷ plans) h ran
-      of None none unbegun-it leads =
+      of later None none unbegun-it leads =
           subst (Followed may (plan ∷ plans) h) (same-ran ran (record { lives = []; fault = ended.fault; disk = ended.disk }) leads.0 leads.1 leads.2)
           (unbegun plan plans may before h is opens can.0 ended (told ended.disk) refl unbegun-it)
-      of (Some life) some begun leads = by_fault ended.fault refl leads
+      of later (Some life) some begun leads = by_fault ended.fault refl leads
         where
           lived : IsLived told (given_by script plan) plan (seen h) ended life
           lived = subst (λ (t : Option History). IfSome t (λ h. IsLived told (given_by script plan) plan (seen h) ended life)) is begun.is
@@ -355,13 +356,13 @@ module _ {D : Type 0} (told : D → Option History) (count : D → ℕ) (script 
               (λ played.
               subst (λ l. Followed may (plan ∷ plans) h (record ran { lives = l })) (sym leads.1)
               (goes-on plan plans may before h is opens can.0 ended life lived begun.fault played (sym played.fault_is ∙ none) (record ran { lives = leads.0 })
-              (follow plans (MayFollow script (first plan plans may before h is opens can.0 ended life lived begun.fault)) ended.disk
+              (later (MayFollow script (first plan plans may before h is opens can.0 ended life lived begun.fault)) ended.disk
               now.0 now.1
               (opens-behind plan plans may before h is opens can.0 ended life lived begun.fault played.plays.0.state
               (state-is plan lived.start life can.0 facts.0 facts.1 lived.all played.plays) played.opens
               (seen now.0)
               (image ended.disk now.0 now.1))
-              can.1 (record ran { lives = leads.0 }) leads.2)))
+              (record ran { lives = leads.0 }) leads.2)))
               (λ cut. absurd (false≢true (sym (ap is_failure none) ∙ cut.0))) lived.lived
           by_fault (Some why) is-why leads =
               subst (Followed may (plan ∷ plans) h) (same-ran ran (record { lives = life ∷ []; fault = Some why; disk = ended.disk }) leads.0 leads.1 leads.2) (⊎_elim
@@ -376,7 +377,7 @@ module _ {D : Type 0} (told : D → Option History) (count : D → ℕ) (script 
                   played.plays,
                   seen now.0,
                   left-of played now.0 now.1,
-                  subst (λ (f : Option Fault). EndsWith f _ _ _ [] (Some why)) (sym (sym played.fault_is ∙ is-why)) (refl, refl, refl),
+                  subst (λ (f : Option Fault). EndsWith f (AreReplayed (WritesWhole told) script plans (seen now.0) [] (Some why) (seen now.0)) (seen now.0) (seen now.0) [] (Some why)) (sym (sym played.fault_is ∙ is-why)) (refl, refl, refl),
                 ),
               ))
               (λ cut.
@@ -395,6 +396,9 @@ module _ {D : Type 0} (told : D → Option History) (count : D → ℕ) (script 
                   λ i. ((same i).0.seen, (same i).1.seen)
 
 -- ---- the run
+
+abbrev no-lives : List Life
+no-lives = []
 
 zero-none : (why : Option Fault) → status_of why ≡ 0 → why ≡ None
 zero-none None is = refl
@@ -463,11 +467,11 @@ module _ {D : Type 0} (told : D → Option History) (count : D → ℕ) (script 
 
       opens-as : (begun : List Begun) → OpensAs script (seen h) (opening_of one) begun
       opens-as [] = tt
-      opens-as (first ∷ later) = subst (λ r. IsOkAnd r (λ other. (opening_of other ≡ opening_of one) × Agrees script.own script.log other)) (sym is) (refl, agrees)
+      opens-as (head ∷ later) = subst (λ r. IsOkAnd r (λ other. (opening_of other ≡ opening_of one) × Agrees script.own script.log other)) (sym is) (refl, agrees)
 
       left-is : (begun : List Begun) → LeftBy told count script Can always image is-life state-is state-broken (λ first. first ≡ opening_of one) begun h followed.now → IsLeft script (opening_of one) begun (Some h) (Some followed.now)
       left-is [] left = left
-      left-is (first ∷ later) left = left
+      left-is (head ∷ later) left = left
 
   pub runs-told : (plan : LifePlan) (plans : List LifePlan) → script.lives ≡ plan ∷ plans → RunsOn told count script script.lives disk ran → Runs told script h ran
   runs-told plan plans is runs = by_opening (opened script.own (seen h)) refl
@@ -481,7 +485,7 @@ module _ {D : Type 0} (told : D → Option History) (count : D → ℕ) (script 
       now : (n : History) × (told ran.disk ≡ Some n)
       now = told-now told count script Can always image is-life state-is state-broken ran.disk
 
-      abbrev Leads : Option Life → Type 0
+      Leads : Option Life → Type 0
       Leads o = LeadsOn (λ others. RunsOn told count script plans ended.disk (record ran { lives = others })) ended ran o ended.fault
 
       -- where none was begun
@@ -500,7 +504,7 @@ module _ {D : Type 0} (told : D → Option History) (count : D → ℕ) (script 
           of (Some life) some begun leads =
               let lived = subst (λ (t : Option History). IfSome t (λ h. IsLived told (given_by script plan) plan (seen h) ended life)) h-is begun.is in
               absurd (subst (λ r. IsOkAnd r (Agrees script.own script.log)) err lived.agrees)
-          of None no none leads = by_why none.why refl (subst (λ (t : Option History). IsFault script.own script.log t (count disk) (count ended.disk) none.why) h-is none.cause)
+          of None nil none leads = by_why none.why refl (subst (λ (t : Option History). IsFault script.own script.log t (count disk) (count ended.disk) none.why) h-is none.cause)
             where
               by_why : (why : Fault) → none.why ≡ why → IsFault script.own script.log (Some h) (count disk) (count ended.disk) why → Runs told script h ran
               by_why (fault.Device faults) why-is cause = fails none leads (ap (λ f. is_failure (Some f)) why-is)
@@ -508,7 +512,7 @@ module _ {D : Type 0} (told : D → Option History) (count : D → ℕ) (script 
               by_why (fault.Damaged found) why-is cause =
                   none-begun leads none (subst (λ f. HasCause script [] (Some f)) (sym why-is) tt)
                   (subst (λ f. IsReplayed (WritesWhole told) script (seen h) [] (Some f) (seen now.0)) (sym why-is)
-                  (inl (subst (λ r. MatchResult r (λ one. OnOpened (WritesWhole told) script (seen h) one [] (Some (fault.Damaged found)) (seen now.0)) (λ damage. ([] ≡ []) × (Some (fault.Damaged found) ≡ Some (fault.Damaged damage)))) (sym cause) (refl, refl))))
+                  (inl (subst (λ r. MatchResult r (λ one. OnOpened (WritesWhole told) script (seen h) one [] (Some (fault.Damaged found)) (seen now.0)) (λ damage. (no-lives ≡ []) × (Some (fault.Damaged found) ≡ Some (fault.Damaged damage)))) (sym cause) (refl, refl))))
               by_why (fault.Foreign part) why-is cause = absurd (subst (λ r. IsOkAnd r (IsForeign script.own script.log part)) err cause)
               by_why fault.Words why-is cause = absurd cause
               by_why (fault.Script line kind) why-is cause = absurd cause
@@ -521,7 +525,7 @@ module _ {D : Type 0} (told : D → Option History) (count : D → ℕ) (script 
           of (Some life) some begun leads =
               let lived = subst (λ (t : Option History). IfSome t (λ h. IsLived told (given_by script plan) plan (seen h) ended life)) h-is begun.is in
               agreed-runs one ok (subst (λ r. IsOkAnd r (Agrees script.own script.log)) ok lived.agrees) runs
-          of None no none leads = by_why none.why refl (subst (λ (t : Option History). IsFault script.own script.log t (count disk) (count ended.disk) none.why) h-is none.cause)
+          of None nil none leads = by_why none.why refl (subst (λ (t : Option History). IsFault script.own script.log t (count disk) (count ended.disk) none.why) h-is none.cause)
             where
               by_why : (why : Fault) → none.why ≡ why → IsFault script.own script.log (Some h) (count disk) (count ended.disk) why → Runs told script h ran
               by_why (fault.Device faults) why-is cause = fails none leads (ap (λ f. is_failure (Some f)) why-is)
@@ -530,7 +534,7 @@ module _ {D : Type 0} (told : D → Option History) (count : D → ℕ) (script 
               by_why (fault.Foreign part) why-is cause =
                   none-begun leads none (subst (λ f. HasCause script [] (Some f)) (sym why-is) tt)
                   (subst (λ f. IsReplayed (WritesWhole told) script (seen h) [] (Some f) (seen now.0)) (sym why-is)
-                  (inl (subst (λ r. MatchResult r (λ one. OnOpened (WritesWhole told) script (seen h) one [] (Some (fault.Foreign part)) (seen now.0)) (λ damage. ([] ≡ []) × (Some (fault.Foreign part) ≡ Some (fault.Damaged damage)))) (sym ok)
+                  (inl (subst (λ r. MatchResult r (λ one. OnOpened (WritesWhole told) script (seen h) one [] (Some (fault.Foreign part)) (seen now.0)) (λ damage. (no-lives ≡ []) × (Some (fault.Foreign part) ≡ Some (fault.Damaged damage)))) (sym ok)
                   (inr (part, subst (λ r. IsOkAnd r (IsForeign script.own script.log part)) ok cause, refl, refl)))))
               by_why fault.Words why-is cause = absurd cause
               by_why (fault.Script line kind) why-is cause = absurd cause
@@ -544,7 +548,8 @@ module _ {D : Type 0} (told : D → Option History) (count : D → ℕ) (script 
 pub of-run : {D : Type 0} (told : D → Option History) (count : D → ℕ) (script : Script) (least : ℕ) (every : (disk : D) → least ≤ count disk) (plans : List LifePlan) (before : D) (ran : Ran D)
     → RunsOn told count script plans before ran → IsOfRun least (count ran.disk) ran.fault
 of-run told count script least every [] before ran runs = subst (IsOfRun least (count ran.disk)) (sym runs.1) tt
-of-run {D = D} told count script least every (plan ∷ plans) before ran (ended, lives-on, leads) = of ended.life refl lives-on leads
+of-run {D = D} told count script least every (plan ∷ plans) before ran (ended, lives-on, leads) =
+    of (λ before ran runs. of-run told count script least every plans before ran runs) ended.life refl lives-on leads
   where
     here : (why : Option Fault) → ran.fault ≡ why → ran.disk ≡ ended.disk → IsOfRun least (count ended.disk) why → IsOfRun least (count ran.disk) ran.fault
     here why is disk of = subst (λ d. IsOfRun least (count d) ran.fault) (sym disk) (subst (IsOfRun least (count ended.disk)) (sym is) of)
@@ -572,14 +577,14 @@ of-run {D = D} told count script least every (plan ∷ plans) before ran (ended,
     begun-of (Some (fault.Peer faults)) of = absurd of
     begun-of (Some (fault.Full long limit)) of = tt
 
-    of : (o : Option Life) → ended.life ≡ o → LivesOn told count (given_by script plan) plan before ended o
+    of : ((before : D) (ran : Ran D) → RunsOn told count script plans before ran → IsOfRun least (count ran.disk) ran.fault) → (o : Option Life) → ended.life ≡ o → LivesOn told count (given_by script plan) plan before ended o
         → LeadsOn (λ others. RunsOn told count script plans ended.disk (record ran { lives = others })) ended ran o ended.fault → IsOfRun least (count ran.disk) ran.fault
-    of None no none leads = here ended.fault leads.1 leads.2 (subst (IsOfRun least (count ended.disk)) (sym none.fault_is) (unbegun-of none.why none.cause))
-    of (Some life) some begun leads = by_fault ended.fault refl leads
+    of later None nil none leads = here ended.fault leads.1 leads.2 (subst (IsOfRun least (count ended.disk)) (sym none.fault_is) (unbegun-of none.why none.cause))
+    of later (Some life) some begun leads = by_fault ended.fault refl leads
       where
         by_fault : (why : Option Fault) → ended.fault ≡ why → LeadsOn (λ others. RunsOn told count script plans ended.disk (record ran { lives = others })) ended ran (Some life) why
             → IsOfRun least (count ran.disk) ran.fault
-        by_fault None is leads = of-run told count script least every plans ended.disk (record ran { lives = leads.0 }) leads.2
+        by_fault None is leads = later ended.disk (record ran { lives = leads.0 }) leads.2
         by_fault (Some why) is leads = here (Some why) leads.1 leads.2 (begun-of (Some why) (subst (IsFaultOf (count before) count ended.disk) is begun.fault))
 
 -- ---- below a disk
@@ -593,14 +598,14 @@ replayed-where P Q script (plan ∷ plans) before (life ∷ lives) why behind le
   start,
   starts,
   ⊎_elim
-      (λ played. inl (played.0, played.1, (λ q. played.2 (leads q)), ends (fault_at played.0.0.halt) played.1 played.3))
+      (λ played. inl (played.0, played.1, (λ q. played.2 (leads q)), ends (λ left more. replayed-where P Q script plans left lives why behind leads more) (fault_at played.0.0.halt) played.1 played.3))
       (λ broken. inr broken) lived,
 )
   where
-    ends : (o : Option Fault) (left : Files) → EndsWith o (AreReplayed P script plans left lives why behind) left behind lives why
+    ends : ((left : Files) → AreReplayed P script plans left lives why behind → AreReplayed Q script plans left lives why behind) → (o : Option Fault) (left : Files) → EndsWith o (AreReplayed P script plans left lives why behind) left behind lives why
         → EndsWith o (AreReplayed Q script plans left lives why behind) left behind lives why
-    ends None left later = replayed-where P Q script plans left lives why behind leads later
-    ends (Some full) left last = last
+    ends more None left later = more left later
+    ends more (Some full) left last = last
 
 -- what a run over a disk is of the disk below it
 pub runs-below : {D E : Type 0} (told : D → Option History) (above : E → Option History) (below : E → D) → ((e : E) → above e ≡ told (below e))

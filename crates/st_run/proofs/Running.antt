@@ -1,5 +1,5 @@
 -- Lives that follow one another.
-use Rattle.std.proofs.Common.{◌≡◌, ◌∙◌, ℕ, List, [], ◌∷◌, ◌++◌, Option, Some, None, is_some, Bool, true, false, refl, sym, ap, subst, append_assoc}
+use Rattle.std.proofs.Common.{◌≡◌, ◌∙◌, ℕ, List, [], ◌∷◌, ◌++◌, length, Option, Some, None, is_some, Bool, true, false, refl, sym, ap, subst, append_assoc}
 use Rattle.std.proofs.lemmas.Bool.{false≢true}
 use Rattle.std.proofs.lemmas.List.{append-nil}
 use Rattle.st_disk.specs.History.{History, MayLeave}
@@ -22,6 +22,10 @@ some-of (Some a) is = (a, refl)
 pub nothing-left : {A : Type 0} (o : Option A) → is_some o ≡ false → o ≡ None
 nothing-left None is = refl
 nothing-left (Some a) is = absurd (false≢true (sym is))
+
+pub empty-of : {A : Type 0} (l : List A) → length l ≡ 0 → l ≡ []
+empty-of [] is = refl
+empty-of (a ∷ l) is = cc (is)
 
 -- nothing was done
 pub untouched : (told : Option History) → ToldUnwritten told told

@@ -178,7 +178,12 @@ fn live<N: Story>(
     };
     assert_eq!(rt; server.board().durable(), 0);
     assert_eq!(rt; server.due(1), None::<Act>);
-    let LifeEnded { life, disk, fault } = life_plain(alloc, plan, &SETTINGS, server);
+    let LifeEnded {
+        life,
+        disk,
+        fault,
+        log: _,
+    } = life_plain(alloc, plan, &SETTINGS, server);
     assert!(rt; fault.is_none());
     assert_eq!(rt; disk.bytes(0).len(), 0);
     let Some(life) = life else {

@@ -5,7 +5,7 @@ use Rattle.st_fold.specs.declared.report.Life.{Life}
 use Rattle.st_model.specs.Report.{given_by}
 use Rattle.st_run.specs.Lived.{IsLivable, OwnsAll, LivesOn, given_of}
 use Rattle.st_run.specs.Ran.{RunsOn}
-use Rattle.st_run.proofs.Running.{Continues, continues-first, done, faulted, goes-on, no-room, not-begun, nothing-left, some-of}
+use Rattle.st_run.proofs.Running.{Continues, continues-first, done, empty-of, faulted, goes-on, no-room, not-begun, nothing-left, some-of}
 use Rattle.st_run.proofs.lives.run_lives.Goals as goal
 
 pub loop-plan-init : goal.loop-plan-init
@@ -91,6 +91,6 @@ returns g c =
     let told = g.D.Disk.history in
     let count = g.D.Disk.fault_count in
     let script = c.args.script in
-    let here = subst (λ p. Continues told count script script.lives c.args.disk p c.loop-plan.disk c.loop-plan.lives.items) c.in_default.ensures.cases c.loop-plan.invariant.0 in
+    let here = subst (λ p. Continues told count script script.lives c.args.disk p c.loop-plan.disk c.loop-plan.lives.items) (empty-of c.loop-plan.left.now c.in_default.ensures.cases) c.loop-plan.invariant.0 in
     subst (RunsOn told count script script.lives c.args.disk) (sym c.ran_with-2.ensures)
     (done told count script script.lives c.args.disk c.loop-plan.disk c.loop-plan.lives.items here)

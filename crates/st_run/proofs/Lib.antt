@@ -5,3 +5,4 @@ mod Running
 mod Living
 mod Replaying
 mod Demanding
+mod Playing

@@ -1,11 +1,14 @@
-//! Lives one after the other on one disk.
+//! Runs of scripts: lives one after the other on one disk, from the bytes of a script to those of a transcript.
 #![tactic(auto)]
 
+mod command;
 mod counted;
 mod life;
 mod lives;
 mod opening;
+mod top;
 #[cfg(test)]
 mod tests;
 
 pub use opening::{NotOpened, Opened, begin, open};
+pub use top::{Ended, tool, without_words};

@@ -1,16 +1,14 @@
-//! Replays a script on one storage server, and writes the transcript.
+//! Replays a script on one storage server over an empty disk in memory, and writes the transcript.
 #![tactic(auto)]
 
-mod command;
-mod life;
 #[cfg(test)]
 mod tests;
-mod tool;
 
+use st_disk::Memory;
 use st_io::{StdSink, StdSource};
+use st_run::{tool, without_words};
 use std::process::ExitCode;
 use std::{env, io};
-pub use tool::{Ended, tool, without_words};
 
 fn words(rt: &HostRuntime) -> io::Result<Vec<String>> {
     let mut words = Vec::new(rt.alloc());
@@ -22,18 +20,15 @@ fn words(rt: &HostRuntime) -> io::Result<Vec<String>> {
 
 fn main(rt: HostRuntime) -> io::Result<ExitCode> {
     let mut out = StdSink::new(rt.stdout());
-    let ended = match words(&rt) {
-        Ok(words) => tool(
-            rt.alloc(),
-            &words,
-            &mut StdSource::new(rt.stdin()),
-            &mut out,
-        ),
+    let mut script = StdSource::new(rt.stdin());
+    let disk = Memory::new(rt.alloc());
+    let status = match words(&rt) {
+        Ok(words) => tool(rt.alloc(), &words, &mut script, &mut out, disk).status,
         Err(error) if error.kind() == io::ErrorKind::OutOfMemory => {
-            without_words(rt.alloc(), &mut out)
+            without_words(rt.alloc(), &mut out, disk).status
         }
         // A word that isn't UTF-8 is in no command, and no more is no words at all.
-        Err(_) => tool(rt.alloc(), &[], &mut StdSource::new(rt.stdin()), &mut out),
+        Err(_) => tool(rt.alloc(), &[], &mut script, &mut out, disk).status,
     };
-    Ok(ExitCode::from(ended.status))
+    Ok(ExitCode::from(status))
 }

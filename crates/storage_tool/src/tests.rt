@@ -1,8 +1,9 @@
 //! Rows that a reader of the format can check by hand, through the top call.
 ghost use Rattle.std.specs.Prelude.{◌<◌};
 
-use crate::{tool, without_words};
+use st_disk::{CrashDisk, Memory};
 use st_io::{ByteSink, ByteSource, Sink, Source};
+use st_run::{Ended, tool, without_words};
 use std::alloc::{AllocError, Global};
 use std::test::Fail;
 
@@ -31,20 +32,37 @@ const ONE_POLL: &str =
 const ATOMICS: &str =
     "storage 1\nown - ff\nlog\nbatch 1\nadd 61 ff\nbatch 2\nadd 61 01\nbatch 3\ncompare_and_clear 61 00\nappend 62 -\nlife 3\nask 1 get 61 @1\nask 1 get 61 @2\nask 1 get 61 @3\nask 1 get 62 @3\ndo apply 3\ndo poll 1 4\nclose\nend\n";
 
-// The words with a space between each two, and none for the empty text.
-fn run<S: Source, K: Sink>(
+// The status of a run over a disk, and the disk that it leaves. The words have a space between each two; the empty text is none.
+fn run_over<S: Source, K: Sink, D: CrashDisk + Drop>(
     alloc: Global,
     words: &str,
     script: &mut S,
     out: &mut K,
-) -> Result<u8, AllocError> {
+    disk: D,
+) -> Result<(u8, D), AllocError> {
     let mut all = Vec::new(alloc);
     if !words.is_empty() {
         for word in words.split(' ') {
             all.push(String::from_str(alloc, word)?)?;
         }
     }
-    Ok(tool(alloc, &all, script, out).status)
+    let Ended {
+        status,
+        report: _,
+        disk,
+    } = tool(alloc, &all, script, out, disk);
+    Ok((status, disk))
+}
+
+// The status of a run over an empty disk.
+fn run<S: Source, K: Sink>(
+    alloc: Global,
+    words: &str,
+    script: &mut S,
+    out: &mut K,
+) -> Result<u8, AllocError> {
+    let (status, _) = run_over(alloc, words, script, out, Memory::new(alloc))?;
+    Ok(status)
 }
 
 fn source(
@@ -187,7 +205,10 @@ fn the_first_write_fails(rt: HostRuntime) -> Result<(), Fail> {
 fn memory_is_refused_for_the_words(rt: HostRuntime) -> Result<(), Fail> {
     let alloc = rt.alloc();
     let mut out = ByteSink::new(alloc, Vec::new(alloc));
-    assert_eq!(rt; without_words(alloc, &mut out).status, 9);
+    assert_eq!(rt;
+        without_words(alloc, &mut out, Memory::new(alloc)).status,
+        9
+    );
     let text = "fault memory\nend status 9 asked 0 answered 0\n";
     assert_eq!(rt; out.bytes(), text.as_bytes());
     Ok(())

@@ -2,6 +2,8 @@
 #![tactic(auto)]
 
 #[cfg(test)]
+mod lives_tests;
+#[cfg(test)]
 mod tests;
 
 use st_disk::Memory;

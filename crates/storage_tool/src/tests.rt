@@ -33,7 +33,7 @@ const ATOMICS: &str =
     "storage 1\nown - ff\nlog\nbatch 1\nadd 61 ff\nbatch 2\nadd 61 01\nbatch 3\ncompare_and_clear 61 00\nappend 62 -\nlife 3\nask 1 get 61 @1\nask 1 get 61 @2\nask 1 get 61 @3\nask 1 get 62 @3\ndo apply 3\ndo poll 1 4\nclose\nend\n";
 
 // The status of a run over a disk, and the disk that it leaves. The words have a space between each two; the empty text is none.
-fn run_over<S: Source, K: Sink, D: CrashDisk + Drop>(
+pub(crate) fn run_over<S: Source, K: Sink, D: CrashDisk + Drop>(
     alloc: Global,
     words: &str,
     script: &mut S,
@@ -65,7 +65,7 @@ fn run<S: Source, K: Sink>(
     Ok(status)
 }
 
-fn source(
+pub(crate) fn source(
     alloc: Global,
     script: &str,
     piece: usize,

@@ -9,18 +9,26 @@ import re
 
 MAX_BYTES = 67_108_864
 MAX_VERSION = 9_223_372_036_854_775_807
-MAX_PLAYED = 5_000_000
 WIDTH = 60
 
 OPERATIONS = ("add", "and", "or", "xor", "max", "min", "byte_min", "byte_max", "append", "compare_and_clear")
 MUTATIONS = ("set", "clear", *OPERATIONS)
-LATER = ("window", "seed", "swap", "limit", "quota", "block", "watches", "assign", "drop", "cut", "peerfail", "kill")
-LATER_ACTS = ("start", "block", "began", "durable", "flush")
+LATER = ("block", "watches", "assign", "drop", "cut", "peerfail")
+
+# The options, each with the bounds of its number.
+OPTIONS = {
+    "window": (1, 1 << 62),
+    "patience": (1, 1_000),
+    "seed": (0, (1 << 64) - 1),
+    "swap": (64, 1 << 28),
+    "limit": (64, 1 << 28),
+    "quota": (1, 1 << 20),
+}
 
 # The words after the first of each form. A name stands for a word that is judged, and other words for themselves.
 FORMS = {
     "storage": ["1"],
-    "patience": ["N"],
+    **{word: ["N"] for word in OPTIONS},
     "own": ["-", "ff"],
     "log": [],
     "batch": ["VERSION"],
@@ -32,6 +40,7 @@ FORMS = {
     "last": ["REQUEST"],
     "do": ["ACT"],
     "close": [],
+    "kill": ["CALLS", "CHOICE"],
     "end": [],
 }
 REQUESTS = {
@@ -39,15 +48,16 @@ REQUESTS = {
     "range": ["BEGIN", "END", "ROWS", "BYTES", "fwd|rev", "@V"],
     "key": ["KEY", "eq|ne", "OFFSET", "BEGIN", "END", "@V"],
 }
-ACTS = {"apply": ["[COUNT]"], "poll": ["READER", "[COUNT]"]}
+ACTS = {**{word: ["[COUNT]"] for word in ("apply", "began", "durable", "flush")}, "poll": ["READER", "[COUNT]"]}
 
 BOUNDS = {
-    "N": (1, 1_000),
     "VERSION": (0, MAX_VERSION),
     "READER": (1, 64),
     "ROWS": (1, 10_000),
     "BYTES": (1, 100_000),
     "COUNT": (1, 1_000_000),
+    "CALLS": (0, MAX_VERSION),
+    "CHOICE": (0, (1 << 64) - 1),
     "OFFSET": (-1_000, 1_000),
     "@V": (0, MAX_VERSION),
 }
@@ -55,16 +65,18 @@ BYTE_WORDS = ("KEY", "VALUE", "OPERAND", "BEGIN", "END")
 
 # Where a line may stand: the place that the lines before lead to, with the words that may come next.
 NEXT = {
-    "the first line": ("patience", "own", "log"),
+    "the first line": (*OPTIONS, "own", "log"),
     "log": ("batch", "life"),
     "batch": ("batch", *MUTATIONS, "life"),
-    "life": ("ask", "last", "do", "close"),
-    "close": ("end",),
+    "life": ("ask", "last", "do", "close", "kill"),
+    "close": ("life", "end"),
+    "kill": ("life", "end"),
     "end": (),
 }
 
-PLACES = re.compile(rb"^ *(log|batch|life|close|end)(?= |$)", re.MULTILINE)
-VERSIONS = re.compile(rb"^ *batch +([0-9]+)", re.MULTILINE)
+PLACES = re.compile(rb"^ *(log|batch|life|close|kill|end)(?= |$)", re.MULTILINE)
+LASTS = re.compile(rb"^ *(life|last)(?= |$)", re.MULTILINE)
+VERSIONS = {form: re.compile(rb"^ *" + form.encode() + rb" +([0-9]+)", re.MULTILINE) for form in ("batch", "life")}
 
 
 class Word:
@@ -193,8 +205,8 @@ def bytes_of(word):
 
 def word_fault(name, word, form):
     """The kind of a single word's fault, with the reason, or none."""
-    if name in BOUNDS:
-        low, high = BOUNDS[name]
+    if name in BOUNDS or name == "N":
+        low, high = OPTIONS[form] if name == "N" else BOUNDS[name]
         if name == "VERSION" and form == "batch":
             low = 1
         text = word.text[1:] if name == "@V" else word.text
@@ -267,7 +279,7 @@ def unknown_request(words):
     """A step or a request that isn't known."""
     form, rest = words[0].text, words[1:]
     if form == "do" and rest and rest[0].text not in ACTS:
-        return at(rest[0], f'"{cut(rest[0].text, 20)}" is no step: a step is apply or poll READER')
+        return at(rest[0], f'"{cut(rest[0].text, 20)}" is no step: a step is apply, began, durable, flush or poll READER')
     place = 1 if form == "ask" else 0
     if form in ("ask", "last") and len(rest) > place and rest[place].text not in REQUESTS:
         hint = ""
@@ -349,7 +361,10 @@ def why_range(words):
 
 
 def why_version(words, before):
-    last = last_match(VERSIONS, before)
+    form = "life" if words[0] == "life" else "batch"
+    last = last_match(VERSIONS[form], before)
+    if form == "life":
+        return at(words[1], f"versions of lives don't fall, and the life before has version {last}")
     return at(words[1], f"versions of batches rise, and the batch before has version {last}")
 
 
@@ -361,8 +376,10 @@ def place_of(before):
 def why_order(words, before):
     form = words[0]
     place = place_of(before)
-    if form.text == "patience" and place == "the first line":
-        return at(form, '"patience" stands here for the second time')
+    if form.is_among(OPTIONS) and place == "the first line":
+        return at(form, f'"{form.text}" stands here for the second time')
+    if form == "kill" and place == "life" and last_match(LASTS, before) == "last":
+        return at(form, 'a life with a "last" line isn\'t killed: it ends with "close"')
     nexts = ["a mutation" if word == "set" else word for word in NEXT[place] if word not in MUTATIONS or word == "set"]
     after = {"the first line": "in the head", "log": 'after "log"', "batch": "in a batch", "life": "in a life"}.get(place, f'after "{place}"')
     come = f"{after} come {', '.join(nexts[:-1])}{' or ' if nexts[:-1] else ''}{nexts[-1]}" if nexts else "nothing follows the end"
@@ -372,6 +389,8 @@ def why_order(words, before):
 def why_limit(words):
     if words[0] == "batch":
         return at(words[0], "a script has at most 1000000 batches")
+    if words[0] == "life":
+        return at(words[0], "a script has at most 1000 lives")
     return at(words[0], "a script has at most 100000 requests, and the ROWS of its ranges are at most 10000000 together")
 
 
@@ -381,10 +400,6 @@ def why_unbuilt(words):
         return at(form, 'the only "own" line that is played yet is a first "own - ff"')
     if form == "log":
         return at(form, 'the server owns no key: put "own - ff" before "log"')
-    if form == "life":
-        return at(form, "a second life isn't played yet")
-    if form == "batch":
-        return at(words[1], f"versions of batches above {MAX_PLAYED} aren't played yet")
     if form.text in ("do", "ask"):
         word = words[1 if form == "do" else 2]
         return at(word, f'"{cut(word.text, 20)}" is part of scripts, and isn\'t played yet')
@@ -469,6 +484,18 @@ def of_words(words):
     return told + ["  usage: bin/storage_tool replay [--trace] < SCRIPT", "  help: bin/storage_tool --help"]
 
 
+# The statuses that are told in one line.
+SAID = {
+    4: "standard input could not be read",
+    5: "standard output could not be written",
+    6: "the disk failed; docs/FAULTS.md explains it",
+    8: "the files of the disk are no store; docs/FAULTS.md explains it",
+    9: "memory was refused",
+    10: "a commit has no room in its file; docs/FAULTS.md explains it",
+    11: "the store of the disk is that of another log; docs/FAULTS.md explains it",
+}
+
+
 def of_status(status, words, fault=None, script=None):
     """What to say beside a transcript. `fault` is the line and the kind of a faulty script, where they are known."""
     if status == 2:
@@ -477,10 +504,4 @@ def of_status(status, words, fault=None, script=None):
         return of_script(*fault, script) + [f'  see docs/FAULTS.md, "{fault[1]}"']
     if status == 3:
         return ["storage_tool: the script is faulty; docs/FAULTS.md explains each kind of fault"]
-    if status == 4:
-        return ["storage_tool: standard input could not be read"]
-    if status == 5:
-        return ["storage_tool: standard output could not be written"]
-    if status == 9:
-        return ["storage_tool: memory was refused"]
-    return []
+    return ["storage_tool: " + SAID[status]] if status in SAID else []

@@ -32,7 +32,8 @@ A first script:   bin/storage_tool replay --trace < examples/read_too_early.scri
 As a picture:     bin/show examples/read_too_early.script
 
 The status is 0 for a script that was played, 2 for other words, 3 for a faulty script, 4 and 5 where reading or writing
-failed, 9 for want of memory, and 1 where the program can't be built.
+failed, 6 where the disk failed, 8 and 11 for a store that can't be opened, 9 for want of memory, 10 for a full file, and 1
+where the program can't be built.
 
 docs/SCRIPT.md has the lines of a script, docs/TRANSCRIPT.md those of a transcript, docs/FAULTS.md what can go wrong.
 """

@@ -35,8 +35,9 @@ ROWS = [
     (LIFE + b"ask 1 range - ff 10 1000 forward @1\n", "word", "forward", "fwd or rev"),
     (LIFE + b"ask 1 range - ff 10 1000 @1\n", "word", " ", "is missing"),
     (LIFE + b"ask 1 key 61 lt 1 - ff @1\n", "word", "lt", "eq or ne"),
-    (LIFE + b"do aply\n", "word", "aply", "a step is apply or poll READER"),
+    (LIFE + b"do aply\n", "word", "aply", "a step is apply, began, durable, flush or poll READER"),
     (LIFE + b"do\n", "word", " ", "ACT is missing"),
+    (LIFE + b"kill 0\n", "word", " ", "CHOICE is missing"),
     (LIFE + b"do poll\n", "word", " ", "READER is missing"),
     (LIFE + b"do apply 1 1\n", "word", "1", "one word too many"),
     (LIFE + b"close now\n", "word", "now", '"close" has no words after it'),
@@ -53,6 +54,12 @@ ROWS = [
     (LIFE + b"ask 1 key 61 eq 1001 - ff @1\n", "number", "1001", "OFFSET is a number from -1000 to 1000"),
     (LIFE + b"ask 1 range - ff 0 1 fwd @1\n", "number", "0", "ROWS is a number from 1 to 10000"),
     (LIFE + b"do apply 0\n", "number", "0", "COUNT"),
+    (LIFE + b"do flush 0\n", "number", "0", "COUNT"),
+    (LIFE + b"kill x 0\n", "number", "x", "CALLS is a number from 0 to"),
+    (LIFE + b"kill 0 -1\n", "number", "-1", "CHOICE"),
+    (b"storage 1\nwindow 0\n", "number", "0", "N is a number from 1 to 4611686018427387904"),
+    (b"storage 1\nswap 63\n", "number", "63", "N is a number from 64 to 268435456"),
+    (b"storage 1\nquota 1048577\n", "number", "1048577", "N is a number from 1 to 1048576"),
     (LIFE + b"do poll 65\n", "number", "65", "READER"),
     (BATCH + b"set 616 31\n", "hex", "616", "KEY has 3 hex digits"),
     (BATCH + b"set 61 3\n", "hex", "3", "VALUE has 1 hex digits"),
@@ -74,22 +81,27 @@ ROWS = [
     (LIFE + b"ask 1 range 62 61 1 1 fwd @1\n", "range", "62 61", "isn't below"),
     (LIFE + b"ask 1 key 70 eq 1 61 62 @1\n", "range", "61 62", "lies outside"),
     (BATCH + b"set 61 31\nbatch 1\n", "version", "1", "the batch before has version 1"),
+    (LIFE + b"close\nlife 0\n", "version", "0", "the life before has version 1"),
     (HEAD + b"set 61 31\n", "order", "set", 'after "log" come batch or life'),
     (HEAD + b"log\n", "order", "log", "come batch or life"),
     (BATCH + b"close\n", "order", "close", "in a batch come batch, a mutation or life"),
-    (LIFE + b"set 61 31\n", "order", "set", "in a life come ask, last, do or close"),
-    (LIFE + b"close\nclose\n", "order", "close", 'after "close" come end'),
+    (LIFE + b"set 61 31\n", "order", "set", "in a life come ask, last, do, close or kill"),
+    (LIFE + b"close\nclose\n", "order", "close", 'after "close" come life or end'),
+    (LIFE + b"kill 0 0\nkill 0 0\n", "order", "kill", 'after "kill" come life or end'),
+    (LIFE + b"last get 61 @1\ndo apply\nkill 0 0\n", "order", "kill", 'with a "last" line'),
     (LIFE + b"close\nend\nend\n", "order", "end", "nothing follows the end"),
     (b"storage 1\npatience 3\npatience 3\n", "order", "patience", "for the second time"),
-    (b"storage 1\nend\n", "order", "end", "in the head come patience, own or log"),
+    (b"storage 1\nseed 1\npatience 3\nseed 1\n", "order", "seed", "for the second time"),
+    (b"storage 1\nend\n", "order", "end", "in the head come window, patience, seed, swap, limit, quota, own or log"),
     (b"storage 1\nlog\n", "unbuilt", "log", 'put "own - ff" before "log"'),
     (b"storage 1\nown 61 62\n", "unbuilt", "own", 'a first "own - ff"'),
     (b"storage 1\nown - ff\r\n", "unbuilt", "own", "CR LF"),
-    (HEAD + b"batch 5000001\n", "unbuilt", "5000001", "above 5000000"),
     (BATCH + b"drop 61 62\n", "unbuilt", "drop", "aren't played yet"),
     (LIFE + b"ask 1 watch 61 none\n", "unbuilt", "watch", "isn't played yet"),
-    (LIFE + b"do flush\n", "unbuilt", "flush", "isn't played yet"),
-    (LIFE + b"close\nlife 2\n", "unbuilt", "life", "a second life"),
+    (LIFE + b"do start\n", "unbuilt", "start", "isn't played yet"),
+    (b"storage 1\nblock 500\n", "unbuilt", "block", "aren't played yet"),
+    (b"storage 1\nwatches 500\n", "unbuilt", "watches", "aren't played yet"),
+    (LIFE + b"cut 1\n", "unbuilt", "cut", "aren't played yet"),
 ]
 
 
@@ -120,7 +132,7 @@ class Reasons(unittest.TestCase):
         self.assertIn('isn\'t skipped is "own - ff"', explain.of_script(5, "end", b"storage 1\nown - ff\n# more\n\n")[1])
 
     def test_each_status(self):
-        for status in (4, 5, 9):
+        for status in (4, 5, 6, 8, 9, 10, 11):
             self.assertEqual(len(explain.of_status(status, ["replay"])), 1)
         self.assertEqual(explain.of_status(0, ["replay"]), [])
         self.assertIn("docs/FAULTS.md", explain.of_status(3, ["replay"])[0])

@@ -116,7 +116,8 @@ fn a_second_life_opens_where_the_first_was_durable(rt: HostRuntime) -> Result<()
         expect_fresh(&rt, alloc, words, &script, 0, &text)?;
     }
     // Version 0 isn't too old where a first life opens.
-    let script = "storage 1\nown - ff\nlog\nbatch 1\nset 61 31\nlife 1\nask 1 get 61 @0\ndo poll 1\nclose\nend\n";
+    let script =
+        "storage 1\nown - ff\nlog\nbatch 1\nset 61 31\nlife 1\nask 1 get 61 @0\ndo poll 1\nclose\nend\n";
     let text =
         "life 1 opened 0\nevent applied 1\nanswer 1 at 1 absent\nlife 1 closed\nend status 0 asked 1 answered 1\n";
     expect_fresh(&rt, alloc, "replay --trace", script, 0, text)?;
@@ -125,37 +126,57 @@ fn a_second_life_opens_where_the_first_was_durable(rt: HostRuntime) -> Result<()
 
 // What `first-commit` tells where its second life opens at this version.
 fn first_commit_text(alloc: Global, opened: u64) -> Result<String, Fail> {
-    Ok(
-        format!(in alloc; "life 1 opened 0\nlife 1 killed\nlife 2 opened {opened}\nanswer 1 = 31\nlife 2 closed\nend status 0 asked 1 answered 1\n")?,
-    )
+    Ok(format!(in alloc;
+        "life 1 opened 0\nlife 1 killed\nlife 2 opened {opened}\nanswer 1 = 31\nlife 2 closed\nend status 0 asked 1 answered 1\n"
+    )?)
+}
+
+// Plays `first-commit`, killed after so many calls. The last write of a commit opens its gate, and only the sync behind it makes
+// that sure.
+fn expect_first_commit(
+    rt: &impl Abort,
+    alloc: Global,
+    calls: u64,
+    choice: u64,
+) -> Result<(), Fail> {
+    let script = format!(in alloc; "{}kill {calls} {choice}\n{}", FIRST_COMMIT, LAST_GET)?;
+    let mut out = ByteSink::new(alloc, Vec::new(alloc));
+    let mut script = source(alloc, &script, 4096, &[])?;
+    let (status, disk) = run_over(alloc, "replay", &mut script, &mut out, Memory::new(alloc))?;
+    assert_eq!(rt; status, 0, "kill {calls} {choice}");
+    let (old, new) = (first_commit_text(alloc, 0)?, first_commit_text(alloc, 1)?);
+    if calls == 9 && choice > 1 {
+        let is_one = out.bytes() == old.as_bytes() || out.bytes() == new.as_bytes();
+        assert!(rt; is_one, "kill {calls} {choice}");
+    } else if calls == 10 || (calls == 9 && choice == 1) {
+        assert_eq!(rt; out.bytes(), new.as_bytes(), "kill {calls} {choice}");
+    } else {
+        assert_eq!(rt; out.bytes(), old.as_bytes(), "kill {calls} {choice}");
+    }
+    if calls == 10 {
+        assert_eq!(rt; disk.bytes(0), FIRST_COMMIT_FILE);
+        assert!(rt; disk.bytes(1).is_empty());
+    }
+    Ok(())
+}
+
+#[test]
+fn a_file_that_is_cut_short_has_no_commit(rt: HostRuntime) -> Result<(), Fail> {
+    let alloc = rt.alloc();
+    for calls in 0..6 {
+        for choice in 0..100 {
+            expect_first_commit(&rt, alloc, calls, choice)?;
+        }
+    }
+    Ok(())
 }
 
 #[test]
 fn a_first_commit_is_whole_or_not_at_all(rt: HostRuntime) -> Result<(), Fail> {
     let alloc = rt.alloc();
-    for calls in 0..11 {
+    for calls in 6..11 {
         for choice in 0..100 {
-            let script =
-                format!(in alloc; "{}kill {calls} {choice}\n{}", FIRST_COMMIT, LAST_GET)?;
-            let mut out = ByteSink::new(alloc, Vec::new(alloc));
-            let mut script = source(alloc, &script, 4096, &[])?;
-            let (status, disk) =
-                run_over(alloc, "replay", &mut script, &mut out, Memory::new(alloc))?;
-            assert_eq!(rt; status, 0, "kill {calls} {choice}");
-            let (old, new) = (first_commit_text(alloc, 0)?, first_commit_text(alloc, 1)?);
-            // The last write of a commit opens its gate, and only the sync behind it makes that sure.
-            if calls == 9 && choice > 1 {
-                let is_one = out.bytes() == old.as_bytes() || out.bytes() == new.as_bytes();
-                assert!(rt; is_one, "kill {calls} {choice}");
-            } else if calls == 10 || (calls == 9 && choice == 1) {
-                assert_eq!(rt; out.bytes(), new.as_bytes(), "kill {calls} {choice}");
-            } else {
-                assert_eq!(rt; out.bytes(), old.as_bytes(), "kill {calls} {choice}");
-            }
-            if calls == 10 {
-                assert_eq!(rt; disk.bytes(0), FIRST_COMMIT_FILE);
-                assert!(rt; disk.bytes(1).is_empty());
-            }
+            expect_first_commit(&rt, alloc, calls, choice)?;
         }
     }
     Ok(())
@@ -228,13 +249,19 @@ fn a_store_is_opened_by_its_own_script(rt: HostRuntime) -> Result<(), Fail> {
 #[test]
 fn a_queue_changes_its_file(rt: HostRuntime) -> Result<(), Fail> {
     let alloc = rt.alloc();
-    let mut script =
-        String::from_str(alloc, "storage 1\nwindow 1\nswap 64\nquota 1\nown - ff\nlog\nbatch 1\nset 60 ")?;
+    let mut script = String::from_str(
+        alloc,
+        "storage 1\nwindow 1\nswap 64\nquota 1\nown - ff\nlog\nbatch 1\nset 60 ",
+    )?;
     for _ in 0..300 {
         script.push_str("2a")?;
     }
-    script.push_str("\nset 61 31\nbatch 2\nset 61 32\nbatch 3\nset 61 33\nbatch 4\nset 61 34\nbatch 5\nset 61 35\n")?;
-    script.push_str("life 5\ndo apply 2\ndo flush\ndo apply\ndo flush\ndo apply\ndo flush\ndo apply\ndo flush\nkill 34 0\n")?;
+    script.push_str(
+        "\nset 61 31\nbatch 2\nset 61 32\nbatch 3\nset 61 33\nbatch 4\nset 61 34\nbatch 5\nset 61 35\n",
+    )?;
+    script.push_str(
+        "life 5\ndo apply 2\ndo flush\ndo apply\ndo flush\ndo apply\ndo flush\ndo apply\ndo flush\nkill 34 0\n",
+    )?;
     let killed = format!(in alloc; "{script}end\n")?;
     let text = "life 1 opened 0\nlife 1 killed\nend status 0 asked 0 answered 0\n";
     let disk = expect_fresh(&rt, alloc, "replay", &killed, 0, text)?;
@@ -244,7 +271,10 @@ fn a_queue_changes_its_file(rt: HostRuntime) -> Result<(), Fail> {
     assert_eq!(rt; disk.bytes(1).len(), 683);
     assert_eq!(rt; disk.bytes(1).get(..41), Some(TWO_FILES_ONE));
     // Its second frame has 212 bytes, and none follows.
-    assert_eq!(rt; disk.bytes(1).get(457..471), Some(b"\x01\xd4\0\0\0\x02\0\0\0\0\0\0\0\x01".as_slice()));
+    assert_eq!(rt;
+        disk.bytes(1).get(457..471),
+        Some(b"\x01\xd4\0\0\0\x02\0\0\0\0\0\0\0\x01".as_slice())
+    );
     assert_eq!(rt; disk.bytes(1).get(682), Some(&0));
     script.push_str("life 5\nask 1 get 61 @4\ndo poll 1\nclose\nend\n")?;
     let text =
@@ -256,7 +286,8 @@ fn a_queue_changes_its_file(rt: HostRuntime) -> Result<(), Fail> {
 #[test]
 fn a_file_is_full(rt: HostRuntime) -> Result<(), Fail> {
     let alloc = rt.alloc();
-    let script = "storage 1\nwindow 1\nlimit 200\nown - ff\nlog\nbatch 1\nset 61 31\nbatch 2\nlife 2\ndo apply 2\ndo flush\nclose\nlife 2\nlast get 61 @2\nclose\nend\n";
+    let script =
+        "storage 1\nwindow 1\nlimit 200\nown - ff\nlog\nbatch 1\nset 61 31\nbatch 2\nlife 2\ndo apply 2\ndo flush\nclose\nlife 2\nlast get 61 @2\nclose\nend\n";
     expect_fresh(
         &rt,
         alloc,
@@ -347,15 +378,45 @@ fn two_lives_of_which_the_first_is_killed(rt: HostRuntime) -> Result<(), Fail> {
     let alloc = rt.alloc();
     for calls in 0..41 {
         for choice in 0..4 {
-            let script =
-                format!(in alloc; "{}life 16\nask 1 get 61 @0\nask 2 get 61 @16\ndo poll 1\nkill {calls} {choice}\nlife 16\nask 1 get 61 @3\nlast get 61 @16\ndo poll 1\nclose\nend\n", SIXTEEN)?;
+            let script = format!(in alloc;
+                "{}life 16\nask 1 get 61 @0\nask 2 get 61 @16\ndo poll 1\nkill {calls} {choice}\nlife 16\nask 1 get 61 @3\nlast get 61 @16\ndo poll 1\nclose\nend\n",
+                SIXTEEN
+            )?;
             let opened = commits(calls, 10, choice);
             let answer = at_opening(alloc, 3, opened)?;
-            let text =
-                format!(in alloc; "life 1 opened 0\nanswer 1 absent\nanswer 2 stopped\nlife 1 killed\nlife 2 opened {opened}\nanswer 3 {answer}\nanswer 4 = 10\nlife 2 closed\nend status 0 asked 4 answered 4\n")?;
+            let text = format!(in alloc;
+                "life 1 opened 0\nanswer 1 absent\nanswer 2 stopped\nlife 1 killed\nlife 2 opened {opened}\nanswer 3 {answer}\nanswer 4 = 10\nlife 2 closed\nend status 0 asked 4 answered 4\n"
+            )?;
             expect_fresh(&rt, alloc, "replay", &script, 0, &text)?;
         }
     }
+    Ok(())
+}
+
+// Plays three lives, of which two are killed after so many calls.
+fn expect_three_lives(
+    rt: &impl Abort,
+    alloc: Global,
+    calls: u64,
+    more: u64,
+    choice: u64,
+) -> Result<(), Fail> {
+    let script = format!(in alloc;
+        "{}life 16\nkill {calls} {choice}\nlife 16\nask 1 get 61 @3\nask 2 get 61 @16\ndo poll 1\nkill {more} {choice}\nlife 16\nask 1 get 61 @5\nlast get 61 @16\ndo poll 1\nclose\nend\n",
+        SIXTEEN
+    )?;
+    let second = commits(calls, 10, choice);
+    let first = if second == 0 {
+        first_calls(calls, choice)
+    } else {
+        4
+    };
+    let third = second.saturating_add(commits(more, first, choice));
+    let (one, other) = (at_opening(alloc, 3, second)?, at_opening(alloc, 5, third)?);
+    let text = format!(in alloc;
+        "life 1 opened 0\nlife 1 killed\nlife 2 opened {second}\nanswer 1 {one}\nanswer 2 stopped\nlife 2 killed\nlife 3 opened {third}\nanswer 3 {other}\nanswer 4 = 10\nlife 3 closed\nend status 0 asked 4 answered 4\n"
+    )?;
+    expect_fresh(rt, alloc, "replay", &script, 0, &text)?;
     Ok(())
 }
 
@@ -364,20 +425,20 @@ fn three_lives_of_which_two_are_killed(rt: HostRuntime) -> Result<(), Fail> {
     let alloc = rt.alloc();
     for calls in 0..41 {
         for choice in 0..4 {
-            let second = commits(calls, 10, choice);
-            let first = if second == 0 {
-                first_calls(calls, choice)
-            } else {
-                4
-            };
-            for more in 0..13 {
-                let script =
-                    format!(in alloc; "{}life 16\nkill {calls} {choice}\nlife 16\nask 1 get 61 @3\nask 2 get 61 @16\ndo poll 1\nkill {more} {choice}\nlife 16\nask 1 get 61 @5\nlast get 61 @16\ndo poll 1\nclose\nend\n", SIXTEEN)?;
-                let third = second.saturating_add(commits(more, first, choice));
-                let (one, other) = (at_opening(alloc, 3, second)?, at_opening(alloc, 5, third)?);
-                let text =
-                    format!(in alloc; "life 1 opened 0\nlife 1 killed\nlife 2 opened {second}\nanswer 1 {one}\nanswer 2 stopped\nlife 2 killed\nlife 3 opened {third}\nanswer 3 {other}\nanswer 4 = 10\nlife 3 closed\nend status 0 asked 4 answered 4\n")?;
-                expect_fresh(&rt, alloc, "replay", &script, 0, &text)?;
+            expect_three_lives(&rt, alloc, calls, calls % 7, choice)?;
+        }
+    }
+    Ok(())
+}
+
+// The second life goes on with what the first one left of its first commit.
+#[test]
+fn a_first_commit_is_begun_twice(rt: HostRuntime) -> Result<(), Fail> {
+    let alloc = rt.alloc();
+    for calls in [0, 1, 3, 5, 7, 9] {
+        for more in 3..12 {
+            for choice in 0..4 {
+                expect_three_lives(&rt, alloc, calls, more, choice)?;
             }
         }
     }

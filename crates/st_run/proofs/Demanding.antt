@@ -48,8 +48,8 @@ module _ {D E : Type 0} (told : D → Option History) (above : E → Option Hist
       of (Some h) some = runs-below told above below same script h ran
           (runs-told above count script IsLivable (λ e. keeps e ∙ ap is_some some) image
           (λ plan start life livable given to_do all lived. ⊎_elim
-              (is-played script plan start life (served script servable plan start livable given to_do all))
-              (is-broken script plan start life (served script servable plan start livable given to_do all)) lived)
+          (is-played script plan start life (served script servable plan start livable given to_do all))
+          (is-broken script plan start life (served script servable plan start livable given to_do all)) lived)
           (λ plan start life livable given to_do all plays. state-played script plan start life (served script servable plan start livable given to_do all) plays)
           (λ plan start life livable given to_do all breaks. state-broken script plan start life (served script servable plan start livable given to_do all) breaks)
           no-life servable.lives first h (same first ∙ ap told first-is ∙ some) ran plan plans lives runs)

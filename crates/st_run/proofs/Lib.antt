@@ -6,3 +6,4 @@ mod Living
 mod Replaying
 mod Demanding
 mod Playing
+mod Complete

@@ -100,7 +100,7 @@ first-same (pair ∷ pairs) =
     ap (λ (t : Bool). if t then first_difference pairs pairs else Some (least pair.0 pair.0))
     (both-true (bytes_eq pair.0 pair.0) (bytes_eq pair.1 pair.1) ((bytes_eq-Decides pair.0 pair.0).1 refl) ((bytes_eq-Decides pair.1 pair.1).1 refl)) ∙ first-same pairs
 
-agrees-or : (script : Script) (one : Opens) (part : ForeignPart) → Agrees script.own script.log one → IsForeign script.own script.log part one → ⊥
+pub agrees-or : (script : Script) (one : Opens) (part : ForeignPart) → Agrees script.own script.log one → IsForeign script.own script.log part one → ⊥
 agrees-or script one part.Version agrees foreign = absurd (false≢true (sym foreign.1 ∙ agrees.version))
 agrees-or script one part.Assigned agrees foreign = foreign.1.other agrees.assigned_is
 agrees-or script one (part.Key key) agrees foreign =

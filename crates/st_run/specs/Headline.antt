@@ -11,8 +11,6 @@ use Rattle.st_fold.specs.declared.report.Life.{Life}
 use Rattle.st_fold.specs.Endings.{status_of}
 use Rattle.st_io.specs.Faults.{Rose}
 use Rattle.st_io.specs.Source.{Takes}
-use Rattle.st_life.specs.Ended.{WritesWhole}
-use Rattle.st_life.specs.Lives.{ArePlayed}
 use Rattle.st_restart.specs.Agreement.{Agrees}
 use Rattle.st_restart.specs.Opened.{opened}
 use Rattle.st_report.specs.declared.report.Form.{Form}
@@ -139,3 +137,15 @@ abbrev pub Writes : (before now : Option (List ℕ)) → (faults_before faults_n
 Writes before now faults_before faults_now report status =
     ((status ≡ report.status) × Appends before now (text_of report))
     ⊎ (AppendsPart before now report × (((status ≡ 5) × Rose faults_before faults_now) ⊎ (status ≡ 9)))
+
+-- ---- completeness
+
+-- A script that is in the grammar, over a disk whose files open to its log's store, gives status 0 and its whole text, where no fault
+-- of source, sink or disk is counted, and no file would get longer than it may; or 9 for want of memory.
+pub record IsComplete {D : Type 0} (told : D → Option History) (count : D → ℕ) (bytes : List ℕ) (source_before source_now : ℕ) (before now : D)
+    (held_before held_now : Option (List ℕ)) (sink_before sink_now : ℕ) (report : Report) (status : ℕ) : Type 0 where
+  pub succeeds : (script : Script) (h : History) → script_of bytes ≡ Ok script → told before ≡ Some h
+      → IsOkAnd (opened script.own (seen h)) (Agrees script.own script.log)
+      → ¬ Rose source_before source_now → ¬ Rose sink_before sink_now → ¬ Rose (count before) (count now)
+      → ((long limit : ℕ) → report.fault ≢ Some (fault.Full long limit))
+      → ((status ≡ 0) × (report.fault ≡ None) × Appends held_before held_now (text_of report)) ⊎ (status ≡ 9)

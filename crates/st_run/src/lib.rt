@@ -6,9 +6,9 @@ mod counted;
 mod life;
 mod lives;
 mod opening;
-mod top;
 #[cfg(test)]
 mod tests;
+mod top;
 
 pub use opening::{NotOpened, Opened, begin, open};
 pub use top::{Ended, tool, without_words};

@@ -5,7 +5,7 @@ ghost use Rattle.std.specs.String.{string_bytes};
 ghost use Rattle.st_fold.specs.Endings.{status_of};
 ghost use Rattle.st_script.specs.Playable.{IsPlayable};
 ghost use Rattle.st_run.specs.Command.{form_named, form_of};
-ghost use Rattle.st_run.specs.Headline.{HasReadCause, IsConsistent, IsOfDevice, IsOfScript, IsReadOut, Reports, Writes};
+ghost use Rattle.st_run.specs.Headline.{HasReadCause, IsComplete, IsConsistent, IsOfDevice, IsOfScript, IsReadOut, Reports, Writes};
 ghost use Rattle.st_run.specs.Replayed.{IsOfRun, Runs};
 
 use crate::command::form_named;
@@ -59,6 +59,9 @@ pub fn tool<S: Source, K: Sink, D: CrashDisk>(
     ensures device { IsOfDevice (D.fault_count disk) (D.fault_count result.disk) result.report.fault }
     ensures written { Writes (K.held out.old) (K.held out.new) (K.faults out.old) (K.faults out.new)
         result.report result.status }
+    ensures complete { IsSome (form_named (map string_bytes words.now))
+        → IfSome (S.left script.old) (λ bytes. IsComplete D.history D.fault_count bytes (S.faults script.old) (S.faults script.new)
+        disk result.disk (K.held out.old) (K.held out.new) (K.faults out.old) (K.faults out.new) result.report result.status) }
 {
     let Reported { report, disk } = report_on(alloc, words, script, disk);
     let status = write_report(alloc, &report, out);

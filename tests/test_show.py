@@ -144,7 +144,8 @@ class Command(unittest.TestCase):
                     self.assertEqual((done.stdout, done.returncode), (text, 3))
                     self.assertIn("docs/FAULTS.md", done.stderr)
                 else:
-                    self.assertEqual((done.returncode, done.stderr), (0, ""))
+                    status = int(re.search("^end status ([0-9]+) ", text, re.MULTILINE).group(1))
+                    self.assertEqual((done.returncode, done.stderr == ""), (status, status == 0))
                     self.assertEqual(done.stdout, "\n".join(drawing.as_text(*read((script, transcript)))) + "\n")
 
     def test_a_file_that_is_not_there(self):
